@@ -1,0 +1,120 @@
+//! A sink in memory, which fails where it is told and where it is full.
+
+ghost use Rattle.std.specs.Prelude.{◌≡◌, ◌<◌, ◌≤◌, ◌↔◌, [], length, take, IfOk, OnOk, IsOk, IsErr, OnErr};
+ghost use Rattle.ecs_io.specs.Streams.{HasCause, Grows, Stays};
+ghost use Rattle.ecs_io.specs.Memory.{IsHeld, IsRefusing, taken_count, after_write, after_failed_write};
+
+use super::{Sink, WriteFailed};
+use entity_id::{Counts, OutOfMemory};
+use std::alloc::Global;
+use std::marker::Model;
+
+/// A sink in memory, which holds at most `room` bytes and takes at most `piece` bytes in a write.
+/// Exactly the writes whose numbers, from 0, stand in `fails` fail, and those at a full sink.
+#[derive(Debug, Drop)]
+pub struct MemSink {
+    bytes: Vec<u8>,
+    room: usize,
+    piece: usize,
+    fails: Counts,
+    writes: u64,
+    faults: u64,
+}
+
+impl Model for MemSink {
+    ghost use Rattle.std.specs.Prelude.{◌≤◌, length, vec_capacity};
+    ghost use Rattle.ecs_io.specs.Memory.{Store};
+
+    ghost Value = { Store };
+
+    ghost view = { λ a. record {
+      bytes = a.bytes.items;
+      room = a.room;
+      piece = a.piece;
+      fails = a.fails;
+      writes = a.writes;
+      faults = a.faults;
+    } };
+
+    ghost invariant = { λ a.
+        (length a.bytes.items ≤ a.room) × (a.room ≤ vec_capacity a.bytes) × (1 ≤ a.piece) };
+}
+
+impl MemSink {
+    /// A sink that holds nothing, with room for `room` bytes, that takes at most `piece` bytes in a
+    /// write. Its writes are numbered from 0, and those whose numbers stand in `fails` fail.
+    /// `OutOfMemory` where there is no memory for `room` bytes: no later call takes any.
+    pub fn new(
+        alloc: Global,
+        room: usize,
+        piece: usize,
+        fails: Counts,
+    ) -> Result<MemSink, OutOfMemory>
+        requires { 1 ≤ piece }
+        ensures { IfOk result (λ sink. sink ≡
+            record { bytes = []; room = room; piece = piece; fails = fails; writes = 0; faults = 0 }) }
+    {
+        let bytes = Vec::with_capacity(alloc, room)?;
+        Ok(MemSink {
+            bytes,
+            room,
+            piece,
+            fails,
+            writes: 0,
+            faults: 0,
+        })
+    }
+
+    /// The bytes held, never more than the room. No memory.
+    pub fn bytes(&self) -> &[u8]
+        ensures held { result.now ≡ self.now.bytes }
+        ensures within { length result.now ≤ self.now.room }
+    {
+        &self.bytes
+    }
+
+    /// How many writes have failed. No memory.
+    pub fn faults(&self) -> u64
+        ensures { result ≡ self.now.faults }
+    {
+        self.faults
+    }
+}
+
+impl Sink for MemSink {
+    ghost holds = { IsHeld };
+
+    ghost faults = { λ s. s.faults };
+
+    fn write(&mut self, bytes: &[u8]) -> Result<usize, WriteFailed>
+        requires { 0 < length bytes.now }
+        ensures bound { IfOk result (λ n. (0 < n) × (n ≤ length bytes.now)) }
+        ensures bytes { IfOk result (λ n. Grows (IsHeld self.old) (IsHeld self.new) (take n bytes.now)) }
+        ensures err { OnErr result (Stays (IsHeld self.old) (IsHeld self.new)) }
+        ensures cause { HasCause self.old.faults self.new.faults result }
+        ensures fails { IsErr result ↔ IsRefusing self.old }
+        ensures count { IfOk result (λ n. n ≡ taken_count self.old (length bytes.now)) }
+        ensures taken { IfOk result (λ n. self.new ≡ after_write self.old (take n bytes.now)) }
+        ensures failed { OnErr result (self.new ≡ after_failed_write self.old) }
+    {
+        let number = self.writes;
+        self.writes = self.writes.saturating_add(1);
+        let left = self.room - self.bytes.len();
+        if left == 0 || self.fails.as_slice().contains(&number) {
+            self.faults = self.faults.saturating_add(1);
+            return Err(WriteFailed);
+        }
+        let count = self.piece.min(bytes.len()).min(left);
+        self.bytes.extend_from_slice(&bytes[..count]).unwrap();
+        Ok(count)
+    }
+
+    fn flush(&mut self) -> Result<(), WriteFailed>
+        ensures bytes { Stays (IsHeld self.old) (IsHeld self.new) }
+        ensures cause { HasCause self.old.faults self.new.faults result }
+        ensures ok { IsOk result }
+        ensures same { self.new ≡ self.old }
+    {
+        Ok(())
+    }
+}
