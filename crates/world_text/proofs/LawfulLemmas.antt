@@ -1,0 +1,78 @@
+-- What a document stands for is a lawful document.
+use Rattle.std.proofs.Common.{◌≡◌, ℕ, ◌≤◌, true, List, [], ◌∷◌, ◌++◌, get_or, refl, sym, subst, append_assoc, arith}
+use Rattle.std.specs.List.{AllByRecursion, flat_map}
+use Rattle.std.proofs.lemmas.List.{append-nil}
+use Rattle.std.proofs.lemmas.Bool.{and_parts}
+use Rattle.entity_id.proofs.ListLemmas.{all_weaker}
+use Rattle.world_model.specs.Components.{IsDecl}
+use Rattle.world_model.specs.Worlds.{AreLawfulRows}
+use Rattle.world_text.specs.declared.document.Document.{Document}
+use Rattle.world_text.specs.declared.format.Format.{Format}
+use Rattle.world_text.specs.declared.section.Section.TheVariants as section
+use Rattle.world_text.specs.LineKinds.{Line}
+use Rattle.world_text.specs.Formats.{version_1, IsFormat}
+use Rattle.world_text.specs.Lines.{IsLine, IsNamedDecl}
+use Rattle.world_text.specs.Meaning.{decl_in, tick_in, slot_in, next_in, pools_in, world_of}
+use Rattle.world_text.specs.Fitting.{last_section, fits, fit_after}
+use Rattle.world_text.specs.Documents.{IsDocumentOf, IsLawfulDocumentOf}
+use Rattle.world_text.proofs.LawfulSlots.{all_listed}
+use Rattle.world_text.proofs.LawfulPools.{beside_all}
+use Rattle.world_text.proofs.LawfulParts.{nothing_sound}
+use Rattle.world_text.proofs.LawfulLines.{IsSoundAfter, line_after, IsWhole, whole_after}
+
+-- what these lines stand for is lawful as far as it goes, and whole if they end
+record IsSound (format : Format) (lines : List Line) : Type 0 where
+  pub parts : IsSoundAfter format lines
+  pub whole : last_section lines ≡ section.End → IsWhole format lines
+
+lines_after : (format : Format) (before lines : List Line) → IsFormat format → AllByRecursion (IsLine format) lines → fit_after format before lines ≡ true → IsSound format before → IsSound format (before ++ lines)
+lines_after format before [] is_format each fit sound = subst (IsSound format) (sym (append-nil before)) sound
+lines_after format before (l ∷ lines) is_format each fit sound =
+    let tests = and_parts (fits format before l) (fit_after format (before ++ l ∷ []) lines) fit in
+    subst (IsSound format) (append_assoc before (l ∷ []) lines)
+    (lines_after format (before ++ l ∷ []) lines is_format each.1 tests.1
+    (record {
+      parts = line_after format before l is_format each.0 tests.0 sound.parts;
+      whole = whole_after format before l tests.0;
+    }))
+
+nothing_ended : section.Start ≡ section.End → ⊥
+nothing_ended e = cc
+
+first_tick : (ticks : List ℕ) (limit : ℕ) → AllByRecursion (λ tick. tick ≤ limit) ticks → get_or ticks 0 0 ≤ limit
+first_tick [] limit low = omega arith
+first_tick (tick ∷ ticks) limit low = low.0
+
+-- whole lawful parts are a lawful document
+whole_is_lawful : (format : Format) (lines : List Line) → IsFormat format → IsSoundAfter format lines → IsWhole format lines → IsLawfulDocumentOf format (record { world = world_of format lines })
+whole_is_lawful format lines is_format sound whole = record {
+  world = record {
+    profile = is_format.profile;
+    few_decls = sound.decls.few;
+    decls = all_weaker IsNamedDecl IsDecl (λ decl named. named.fields) (flat_map decl_in lines) sound.decls.named;
+    slots = record {
+      few = sound.slots.few;
+      addressable = is_format.addressable;
+      versions = sound.slots.versions;
+      listed = all_listed (flat_map slot_in lines) (flat_map next_in lines) whole.settled_all sound.listed;
+    };
+    pools = beside_all (AreLawfulRows format.profile (flat_map slot_in lines)) (pools_in format.profile lines) (flat_map decl_in lines) whole.pools_all sound.pools;
+    no_groups = refl;
+  };
+  profile = refl;
+  tick = first_tick (flat_map tick_in lines) 1000000000000 sound.ticks;
+  named = sound.decls.named;
+  apart = sound.decls.apart;
+}
+
+-- what the bytes of a document of any format stand for is lawful
+pub document_is_lawful : (format : Format) (bytes : List ℕ) (document : Document) → IsFormat format → IsDocumentOf format bytes document → IsLawfulDocumentOf format document
+document_is_lawful format bytes document is_format is_document =
+    let start : IsSound format [] = record { parts = nothing_sound format; whole = λ ended. absurd (nothing_ended ended) } in
+    let sound = lines_after format [] is_document.lines is_format is_document.admissible.each is_document.admissible.fit start in
+    subst (λ world. IsLawfulDocumentOf format (record { world = world })) (sym is_document.world_is)
+    (whole_is_lawful format is_document.lines is_format sound.parts (sound.whole is_document.ended))
+
+-- version 1 is a format
+pub version_1_is_format : IsFormat version_1
+version_1_is_format = record { number = omega arith; profile = refl; addressable = omega arith }

@@ -1,0 +1,187 @@
+-- The canonical text of a lawful document is a document that stands for the same.
+use Rattle.std.proofs.Common.{◌≡◌, ℕ, ◌+◌, ◌<◌, ◌≤◌, Bool, true, false, cond, List, [], ◌∷◌, ◌++◌, map, length, get_or, refl, sym, ap, subst, ◌∙◌, arith, zero-add}
+use Rattle.std.specs.Prelude.{◌==◌}
+use Rattle.std.specs.List.{flat_map, zip, list_any, list_all, AllByRecursion, AllZip}
+use Rattle.std.proofs.lemmas.List.{append-nil}
+use Rattle.std.proofs.lemmas.Grind.{flat_map-append}
+use Rattle.std.proofs.lemmas.Bool.{and_from, eq-eqb, not_from_true}
+use Rattle.entity_id.specs.declared.entity.Profile.{Profile}
+use Rattle.entity_id.proofs.ListLemmas.{all-append, all-map, all_weaker}
+use Rattle.world_model.specs.declared.component.Decl.{Decl}
+use Rattle.world_model.specs.declared.slot.Slot.{Slot}
+use Rattle.world_model.specs.declared.world.World.{World}
+use Rattle.world_model.specs.Slots.{is_free_at, AreLawfulSlots}
+use Rattle.world_model.specs.Worlds.{AreLawfulRows}
+use Rattle.world_text.specs.declared.format.Format.{Format}
+use Rattle.world_text.specs.declared.document.Document.{Document}
+use Rattle.world_text.specs.declared.section.Section.TheVariants as section
+use Rattle.world_text.specs.declared.section.Section.{Section}
+use Rattle.world_text.specs.LineKinds.{Line}
+use Rattle.world_text.specs.LineKinds as line
+use Rattle.world_text.specs.Formats.{version_1}
+use Rattle.world_text.specs.Sections.{order, later}
+use Rattle.world_text.specs.Lines.{IsLine, IsNamedDecl, text_of}
+use Rattle.world_text.specs.Meaning.{decl_in, slot_in, next_in, pools_in, settled_from, settled}
+use Rattle.world_text.specs.Fitting.{section_of, last_section, fits, fit_after}
+use Rattle.world_text.specs.Documents.{IsDocumentOf, IsDocument, IsLawfulDocumentOf, IsLawfulDocument, are_named_apart, pool_lines, lines_of, text}
+use Rattle.world_text.proofs.MeaningLemmas.{flat_map_push, order_later, later_is, order_last_section-append, last_section_push, no_next_yet, no_pool_yet}
+use Rattle.world_text.proofs.PrintedMeaning.{none_in, each_in, world_printed}
+use Rattle.world_text.proofs.PrintedFits.{times, fit_append, between, new_at_first, decls_fit, slots_fit, nexts_fit, listed_any, settled_at, settled_by, free_within, each_listed}
+use Rattle.world_text.proofs.PrintedPools.{IsBeforePools, pools_fit}
+use Rattle.world_text.proofs.PrintedLines.{pools_lined}
+
+-- ---- the free list
+
+one_at_most : (b : Bool) (n : ℕ) → n ≡ cond b 1 0 → n ≤ 1
+one_at_most true n e = omega arith
+one_at_most false n e = omega arith
+
+some_if : (b : Bool) (n : ℕ) → n ≡ cond b 1 0 → 0 < n → b ≡ true
+some_if true n e some = refl
+some_if false n e some = absurd (omega arith)
+
+if_some : (b : Bool) (n : ℕ) → n ≡ cond b 1 0 → b ≡ true → 0 < n
+if_some true n e is = omega arith
+if_some false n e is = absurd (cc)
+
+-- ---- the parts in order
+
+low_decls : (ds : List Decl) → order (last_section (map line.Component ds)) ≤ 2
+low_decls [] = omega arith
+low_decls (d ∷ ds) = omega (arith, order_later section.Components (last_section (map line.Component ds)), low_decls ds)
+
+low_slots : (ss : List Slot) → order (last_section (map line.Slot ss)) ≤ 4
+low_slots [] = omega arith
+low_slots (s ∷ ss) = omega (arith, order_later section.Slots (last_section (map line.Slot ss)), low_slots ss)
+
+low_nexts : (ns : List ℕ) → order (last_section (map line.Next ns)) ≤ 5
+low_nexts [] = omega arith
+low_nexts (n ∷ ns) = omega (arith, order_later section.FreeList (last_section (map line.Next ns)), low_nexts ns)
+
+up_to_end : (part : Section) → order part ≤ 7
+up_to_end section.Start = omega arith
+up_to_end section.Version = omega arith
+up_to_end section.Components = omega arith
+up_to_end section.Tick = omega arith
+up_to_end section.Slots = omega arith
+up_to_end section.FreeList = omega arith
+up_to_end section.Pools = omega arith
+up_to_end section.End = omega arith
+
+-- where lines reach the end, so do they with others before them
+end_behind : (a b : List Line) → last_section b ≡ section.End → last_section (a ++ b) ≡ section.End
+end_behind [] b ended = ended
+end_behind (l ∷ a) b ended = ap (later (section_of l)) (end_behind a b ended) ∙ later_is (section_of l) section.End (up_to_end (section_of l))
+
+-- ---- the whole
+
+-- the lines of a world, with its identifiers of a profile
+abbrev lines_at : Profile → World → List Line
+lines_at profile w = line.Version ∷ (map line.Component w.decls ++ (line.Tick w.tick ∷ (map line.Slot w.slots ++ (map line.Next w.free ++ (flat_map (pool_lines profile) (zip w.decls w.pools) ++ line.End ∷ [])))))
+
+ends_printed : (profile : Profile) (w : World) → last_section (lines_at profile w) ≡ section.End
+ends_printed profile w =
+    end_behind (line.Version ∷ map line.Component w.decls) _
+    (end_behind (line.Tick w.tick ∷ map line.Slot w.slots) _ (end_behind (map line.Next w.free) _ (end_behind (flat_map (pool_lines profile) (zip w.decls w.pools)) (line.End ∷ []) refl)))
+
+-- what the lines of a document are printed from, with the format's profile
+record IsPrintable (format : Format) (w : World) : Type 0 where
+  few_decls : length w.decls ≤ 64
+  named : AllByRecursion IsNamedDecl w.decls
+  apart : are_named_apart w.decls ≡ true
+  tick : w.tick ≤ 1000000000000
+  slots : AreLawfulSlots format.profile format.slot_limit w.slots w.free
+  pools : AllZip (AreLawfulRows format.profile w.slots) w.decls w.pools
+
+free_is : (format : Format) (w : World) → IsPrintable format w → (i : ℕ) → 0 < times i w.free → is_free_at w.slots i ≡ true
+free_is format w h i some = some_if (is_free_at w.slots i) (times i w.free) (h.slots.listed i) some
+
+lines_spelled : (format : Format) (w : World) → IsPrintable format w → AllByRecursion (IsLine format) (lines_at format.profile w)
+lines_spelled format w h = (
+  tt,
+  all-append (IsLine format) (map line.Component w.decls) _ (all-map (IsLine format) line.Component w.decls h.named) (
+    h.tick,
+    all-append (IsLine format) (map line.Slot w.slots) _ (all-map (IsLine format) line.Slot w.slots h.slots.versions)
+        (all-append (IsLine format) (map line.Next w.free) _ (all-map (IsLine format) line.Next w.free (each_listed (λ i. i < format.slot_limit) w.free (λ i some. omega (arith, free_within w.slots i (free_is format w h i some), h.slots.few))))
+        (all-append (IsLine format) (flat_map (pool_lines format.profile) (zip w.decls w.pools)) (line.End ∷ []) (pools_lined format w.slots w.free w.decls w.pools h.slots h.named h.pools) (tt, tt))),
+  ),
+)
+
+lines_fit : (format : Format) (w : World) → IsPrintable format w → fit_after format [] (lines_at format.profile w) ≡ true
+lines_fit format w h =
+    let a = map line.Component w.decls in
+    let b = map line.Slot w.slots in
+    let c = map line.Next w.free in
+    let pools = flat_map (pool_lines format.profile) (zip w.decls w.pools) in
+    let p1 = line.Version ∷ a in
+    let p2 = p1 ++ line.Tick w.tick ∷ [] in
+    let p3 = p2 ++ b in
+    let p4 = p3 ++ c in
+    let p5 = p4 ++ pools in
+    let start = order_later section.Version (last_section a) in
+    let r1_high : order (last_section p1) ≤ 2 = omega (arith, start, low_decls w.decls) in
+    let r1_low : 1 ≤ order (last_section p1) = omega (arith, start) in
+    let r2 : order (last_section p2) ≡ 3 = ap order (last_section_push p1 (line.Tick w.tick) (omega arith)) in
+    let e3 = order_last_section-append p2 b in
+    let r3_high : order (last_section p3) ≤ 4 = omega (arith, e3, low_slots w.slots) in
+    let r3_low : 3 ≤ order (last_section p3) = omega (arith, e3) in
+    let e4 = order_last_section-append p3 c in
+    let r4_high : order (last_section p4) ≤ 5 = omega (arith, e4, low_nexts w.free) in
+    let r4_low : 3 ≤ order (last_section p4) = omega (arith, e4) in
+    let s2 : flat_map slot_in p2 ≡ [] = flat_map_push slot_in p1 (line.Tick w.tick) ∙ append-nil (flat_map slot_in p1) ∙ none_in slot_in line.Component (λ _. refl) w.decls in
+    let s3 : flat_map slot_in p3 ≡ w.slots = flat_map-append slot_in p2 b ∙ (λ i. s2 i ++ each_in slot_in line.Slot (λ _. refl) w.slots i) in
+    let s4 : flat_map slot_in p4 ≡ w.slots = flat_map-append slot_in p3 c ∙ (λ i. s3 i ++ none_in slot_in line.Next (λ _. refl) w.free i) ∙ append-nil w.slots in
+    let n3 : flat_map next_in p3 ≡ [] = no_next_yet p3 (omega arith) in
+    let n4 : flat_map next_in p4 ≡ w.free = flat_map-append next_in p3 c ∙ (λ i. n3 i ++ each_in next_in line.Next (λ _. refl) w.free i) in
+    let d1 : flat_map decl_in p1 ≡ w.decls = each_in decl_in line.Component (λ _. refl) w.decls in
+    let d2 : flat_map decl_in p2 ≡ w.decls = flat_map_push decl_in p1 (line.Tick w.tick) ∙ append-nil (flat_map decl_in p1) ∙ d1 in
+    let d3 : flat_map decl_in p3 ≡ w.decls = flat_map-append decl_in p2 b ∙ (λ i. d2 i ++ none_in decl_in line.Slot (λ _. refl) w.slots i) ∙ append-nil w.decls in
+    let d4 : flat_map decl_in p4 ≡ w.decls = flat_map-append decl_in p3 c ∙ (λ i. d3 i ++ none_in decl_in line.Next (λ _. refl) w.free i) ∙ append-nil w.decls in
+    let open_at : (i : ℕ) → 0 < times i w.free → get_or (settled p3) i true ≡ false = λ i some. ap (λ flags. get_or flags i true) (λ j. settled_from 0 (s3 j) (n3 j)) ∙ settled_at 0 i w.slots ∙ not_from_true _ (free_is format w h i some) in
+    let all_named : (k : ℕ) → is_free_at w.slots k ≡ true → list_any (λ m. m == (0 + k)) w.free ≡ true = λ k free. ap (λ n. list_any (λ m. m == n) w.free) (zero-add k) ∙ listed_any k w.free (if_some (is_free_at w.slots k) (times k w.free) (h.slots.listed k) free) in
+    let state : IsBeforePools format w.slots p4 [] w.decls = record {
+      low = r4_low;
+      high = omega arith;
+      slots_are = s4;
+      settled = ap (list_all (λ x. x)) (λ i. settled_from 0 (s4 i) (n4 i)) ∙ settled_by 0 w.slots w.free all_named;
+      decls_are = d4;
+      count = ap length (no_pool_yet format.profile p4 (omega arith));
+    } in
+    let printed = pools_fit format w.slots p4 [] w.decls w.pools state (all_weaker _ _ (λ d is. is.fields) w.decls h.named) h.pools in
+    let counted : length (pools_in format.profile p5) ≡ length (flat_map decl_in p5) = printed.1.count ∙ sym (ap length (printed.1.decls_are ∙ append-nil w.decls)) in
+    let end : fits format p5 line.End ≡ true = and_from _ _ (between section.Tick section.Pools (last_section p5) printed.1.low printed.1.high) (and_from _ _ printed.1.settled (eq-eqb _ _ counted)) in
+    fit_append format (line.Version ∷ []) a _ (decls_fit format (line.Version ∷ []) w.decls (omega arith) (omega arith) (omega (arith, h.few_decls)) (new_at_first w.decls) h.apart)
+    (and_from _ _ (between section.Version section.Components (last_section p1) r1_low r1_high)
+    (fit_append format p2 b _ (slots_fit format p2 w.slots (omega arith) (omega arith) (omega (arith, ap length s2, h.slots.few)))
+    (fit_append format p3 c _ (nexts_fit format p3 w.free r3_low (omega arith) (λ i. one_at_most (is_free_at w.slots i) (times i w.free) (h.slots.listed i)) open_at)
+    (fit_append format p4 pools (line.End ∷ []) printed.0 (and_from _ _ end refl)))))
+
+printable : (format : Format) (document : Document) → IsLawfulDocumentOf format document → IsPrintable format document.world
+printable format document lawful = record {
+  few_decls = lawful.world.few_decls;
+  named = lawful.named;
+  apart = lawful.apart;
+  tick = lawful.tick;
+  slots = subst (λ p. AreLawfulSlots p format.slot_limit document.world.slots document.world.free) lawful.profile lawful.world.slots;
+  pools = subst (λ p. AllZip (AreLawfulRows p document.world.slots) document.world.decls document.world.pools) lawful.profile lawful.world.pools;
+}
+
+-- the printed lines of a lawful document are a document that stands for the same
+pub printed_is_document_of : (format : Format) (document : Document) → IsLawfulDocumentOf format document → IsDocumentOf format (text_of format (lines_of document.world)) document
+printed_is_document_of format document lawful =
+    let w = document.world in
+    let h = printable format document lawful in
+    record {
+      lines = lines_of w;
+      admissible = record {
+        each = subst (λ p. AllByRecursion (IsLine format) (lines_at p w)) (sym lawful.profile) (lines_spelled format w h);
+        fit = subst (λ p. fit_after format [] (lines_at p w) ≡ true) (sym lawful.profile) (lines_fit format w h);
+      };
+      ended = ends_printed w.profile w;
+      spelled = refl;
+      world_is = world_printed format w lawful.world lawful.profile;
+    }
+
+-- what is printed is read again
+pub printed_is_document : (document : Document) → IsLawfulDocument document → IsDocument (text document) document
+printed_is_document document lawful = printed_is_document_of version_1 document lawful

@@ -1,0 +1,123 @@
+-- The printed lines stand for the world that was printed.
+use Rattle.std.proofs.Common.{◌≡◌, ℕ, true, List, [], ◌∷◌, ◌++◌, map, get_or, refl, sym, ap, ◌∙◌}
+use Rattle.std.specs.List.{flat_map, zip, AllZip, AllByRecursion}
+use Rattle.std.proofs.lemmas.List.{append-nil, append_assoc}
+use Rattle.std.proofs.lemmas.Grind.{flat_map-append}
+use Rattle.entity_id.specs.declared.entity.Profile.{Profile}
+use Rattle.entity_id.specs.declared.entity.Entity.{Entity}
+use Rattle.world_model.specs.declared.component.Decl.{Decl}
+use Rattle.world_model.specs.declared.component.Row.{Row}
+use Rattle.world_model.specs.declared.slot.Slot.{Slot}
+use Rattle.world_model.specs.declared.world.World.{World}
+use Rattle.world_model.specs.Components.{IsDecl, IsRow}
+use Rattle.world_model.specs.Components as components
+use Rattle.world_model.specs.Worlds.{IsLawful, AreLawfulRows}
+use Rattle.world_text.specs.declared.format.Format.{Format}
+use Rattle.world_text.specs.LineKinds.{Line}
+use Rattle.world_text.specs.LineKinds as line
+use Rattle.world_text.specs.Meaning.{decl_in, tick_in, slot_in, next_in, rows_in, pools_in, world_of}
+use Rattle.world_text.specs.Documents.{row_line, pool_lines, lines_of}
+use Rattle.world_text.proofs.MeaningLemmas.{IsBesidePools}
+use Rattle.world_text.proofs.PrintedValues.{row_kept}
+
+-- ---- parts that are lists
+
+-- the lines of one kind hold nothing of another
+pub none_in : {X Y : Type 0} (f : Line → List Y) (g : X → Line) → ((x : X) → f (g x) ≡ []) → (xs : List X) → flat_map f (map g xs) ≡ []
+none_in f g h [] = refl
+none_in f g h (x ∷ xs) = ap (λ ys. ys ++ flat_map f (map g xs)) (h x) ∙ none_in f g h xs
+
+-- the lines of one kind hold what they were made from
+pub each_in : {X : Type 0} (f : Line → List X) (g : X → Line) → ((x : X) → f (g x) ≡ x ∷ []) → (xs : List X) → flat_map f (map g xs) ≡ xs
+each_in f g h [] = refl
+each_in f g h (x ∷ xs) = ap (λ ys. ys ++ flat_map f (map g xs)) (h x) ∙ ap (λ ys. x ∷ ys) (each_in f g h xs)
+
+-- the lines of pools hold nothing but pools and rows
+none_in_pools : {Y : Type 0} (f : Line → List Y) → ((name : List ℕ) → f (line.Pool name) ≡ []) → ((profile : Profile) (decl : Decl) (entry : Entity × Row) → f (row_line profile decl entry) ≡ []) → (profile : Profile) (pools : List (Decl × List (Entity × Row))) → flat_map f (flat_map (pool_lines profile) pools) ≡ []
+none_in_pools f no_pool no_row profile [] = refl
+none_in_pools f no_pool no_row profile (pool ∷ pools) =
+    flat_map-append f (pool_lines profile pool) (flat_map (pool_lines profile) pools)
+    ∙ (λ i. (no_pool pool.0.name i ++ none_in f (row_line profile pool.0) (no_row profile pool.0) pool.1 i) ++ none_in_pools f no_pool no_row profile pools i)
+
+-- a part of all the lines, kind by kind
+parts : {X : Type 0} (f : Line → List X) (w : World) → f line.Version ≡ [] → f line.End ≡ [] → ((name : List ℕ) → f (line.Pool name) ≡ []) → ((profile : Profile) (decl : Decl) (entry : Entity × Row) → f (row_line profile decl entry) ≡ []) → flat_map f (lines_of w) ≡ flat_map f (map line.Component w.decls) ++ (f (line.Tick w.tick) ++ (flat_map f (map line.Slot w.slots) ++ flat_map f (map line.Next w.free)))
+parts f w no_format no_end no_pool no_row =
+    let pools = flat_map (pool_lines w.profile) (zip w.decls w.pools) in
+    let behind : flat_map f (pools ++ line.End ∷ []) ≡ [] = flat_map-append f pools (line.End ∷ []) ∙ (λ i. none_in_pools f no_pool no_row w.profile (zip w.decls w.pools) i ++ append-nil (f line.End) i) ∙ no_end in
+    ap (λ x. x ++ flat_map f (map line.Component w.decls ++ (line.Tick w.tick ∷ (map line.Slot w.slots ++ (map line.Next w.free ++ (pools ++ line.End ∷ [])))))) no_format
+    ∙ flat_map-append f (map line.Component w.decls) _
+    ∙ ap (λ x. flat_map f (map line.Component w.decls) ++ (f (line.Tick w.tick) ++ x)) (flat_map-append f (map line.Slot w.slots) _ ∙ ap (λ x. flat_map f (map line.Slot w.slots) ++ x) (flat_map-append f (map line.Next w.free) (pools ++ line.End ∷ []) ∙ ap (λ x. flat_map f (map line.Next w.free) ++ x) behind ∙ append-nil _))
+
+decls_printed : (w : World) → flat_map decl_in (lines_of w) ≡ w.decls
+decls_printed w = parts decl_in w refl refl (λ _. refl) (λ _ _ _. refl) ∙ (λ i. each_in decl_in line.Component (λ _. refl) w.decls i ++ (none_in decl_in line.Slot (λ _. refl) w.slots i ++ none_in decl_in line.Next (λ _. refl) w.free i)) ∙ append-nil w.decls
+
+slots_printed : (w : World) → flat_map slot_in (lines_of w) ≡ w.slots
+slots_printed w = parts slot_in w refl refl (λ _. refl) (λ _ _ _. refl) ∙ (λ i. none_in slot_in line.Component (λ _. refl) w.decls i ++ (each_in slot_in line.Slot (λ _. refl) w.slots i ++ none_in slot_in line.Next (λ _. refl) w.free i)) ∙ append-nil w.slots
+
+nexts_printed : (w : World) → flat_map next_in (lines_of w) ≡ w.free
+nexts_printed w = parts next_in w refl refl (λ _. refl) (λ _ _ _. refl) ∙ (λ i. none_in next_in line.Component (λ _. refl) w.decls i ++ (none_in next_in line.Slot (λ _. refl) w.slots i ++ each_in next_in line.Next (λ _. refl) w.free i))
+
+tick_printed : (w : World) → get_or (flat_map tick_in (lines_of w)) 0 0 ≡ w.tick
+tick_printed w = ap (λ xs. get_or xs 0 0) (parts tick_in w refl refl (λ _. refl) (λ _ _ _. refl) ∙ (λ i. none_in tick_in line.Component (λ _. refl) w.decls i ++ (w.tick ∷ (flat_map tick_in (map line.Slot w.slots) ++ flat_map tick_in (map line.Next w.free)))))
+
+-- ---- pools
+
+-- in front of the first pool line other lines change nothing
+beside_first : (profile : Profile) (l : Line) (rest : List Line) → IsBesidePools l → pools_in profile (l ∷ rest) ≡ pools_in profile rest
+beside_first profile (line.Pool name) rest beside = absurd beside
+beside_first profile (line.Row entity values) rest beside = absurd beside
+beside_first profile line.End rest beside = refl
+beside_first profile _ rest beside = refl
+
+beside_each : {X : Type 0} (profile : Profile) (g : X → Line) → ((x : X) → IsBesidePools (g x)) → (xs : List X) (rest : List Line) → pools_in profile (map g xs ++ rest) ≡ pools_in profile rest
+beside_each profile g beside [] rest = refl
+beside_each profile g beside (x ∷ xs) rest = beside_first profile (g x) (map g xs ++ rest) (beside x) ∙ beside_each profile g beside xs rest
+
+-- the lines of rows stand for the rows
+rows_printed : (profile : Profile) (decl : Decl) (rows : List (Entity × Row)) (rest : List Line) → IsDecl decl → AllByRecursion (λ entry. IsRow entry.1) rows → AllByRecursion (λ entry. components.fits profile decl entry.1 ≡ true) rows → rows_in profile rest ≡ [] → rows_in profile (map (row_line profile decl) rows ++ rest) ≡ rows
+rows_printed profile decl [] rest is_decl wide fit none = none
+rows_printed profile decl (entry ∷ rows) rest is_decl wide fit none =
+    λ i. (entry.0, row_kept profile decl entry.1 is_decl wide.0 fit.0 i) ∷ rows_printed profile decl rows rest is_decl wide.1 fit.1 none i
+
+-- rows belong to the pool before them
+rows_beside : (profile : Profile) (decl : Decl) (rows : List (Entity × Row)) (rest : List Line) → pools_in profile (map (row_line profile decl) rows ++ rest) ≡ pools_in profile rest
+rows_beside profile decl [] rest = refl
+rows_beside profile decl (entry ∷ rows) rest = rows_beside profile decl rows rest
+
+-- no row stands before the first pool line
+no_rows_first : (profile : Profile) (pools : List (Decl × List (Entity × Row))) (rest : List Line) → rows_in profile rest ≡ [] → rows_in profile (flat_map (pool_lines profile) pools ++ rest) ≡ []
+no_rows_first profile [] rest none = none
+no_rows_first profile (pool ∷ pools) rest none = refl
+
+-- the lines of pools stand for the pools, before what is no row and no pool line
+pools_printed : (profile : Profile) (slots : List Slot) (decls : List Decl) (pools : List (List (Entity × Row))) (rest : List Line) → AllByRecursion IsDecl decls → AllZip (AreLawfulRows profile slots) decls pools → rows_in profile rest ≡ [] → pools_in profile rest ≡ [] → pools_in profile (flat_map (pool_lines profile) (zip decls pools) ++ rest) ≡ pools
+pools_printed profile slots [] [] rest are_decls lawful no_rows no_pools = no_pools
+pools_printed profile slots [] (rows ∷ pools) rest are_decls lawful no_rows no_pools = absurd lawful
+pools_printed profile slots (decl ∷ decls) [] rest are_decls lawful no_rows no_pools = absurd lawful
+pools_printed profile slots (decl ∷ decls) (rows ∷ pools) rest are_decls lawful no_rows no_pools =
+    let mine = map (row_line profile decl) rows in
+    let others = flat_map (pool_lines profile) (zip decls pools) in
+    ap (pools_in profile) (append_assoc (pool_lines profile (decl, rows)) others rest)
+    ∙ (λ i. rows_printed profile decl rows (others ++ rest) are_decls.0 lawful.0.wide lawful.0.fitting (no_rows_first profile (zip decls pools) rest no_rows) i ∷ (rows_beside profile decl rows (others ++ rest) ∙ pools_printed profile slots decls pools rest are_decls.1 lawful.1 no_rows no_pools) i)
+
+-- the pools of a lawful world are those of its lines
+all_pools : (limit : ℕ) (w : World) → IsLawful limit w → pools_in w.profile (lines_of w) ≡ w.pools
+all_pools limit w lawful =
+    beside_each w.profile line.Component (λ _. tt) w.decls _
+    ∙ beside_each w.profile line.Slot (λ _. tt) w.slots _
+    ∙ beside_each w.profile line.Next (λ _. tt) w.free _
+    ∙ pools_printed w.profile w.slots w.decls w.pools (line.End ∷ []) lawful.decls lawful.pools refl refl
+
+-- the lines of a lawful world stand for it
+pub world_printed : (format : Format) (w : World) → IsLawful format.slot_limit w → w.profile ≡ format.profile → w ≡ world_of format (lines_of w)
+world_printed format w lawful same =
+    let pools : w.pools ≡ pools_in format.profile (lines_of w) = sym (all_pools format.slot_limit w lawful) ∙ ap (λ (p : Profile). pools_in p (lines_of w)) same in
+    λ i. record {
+      profile = same i;
+      decls = sym (decls_printed w) i;
+      groups = lawful.no_groups i;
+      tick = sym (tick_printed w) i;
+      slots = sym (slots_printed w) i;
+      free = sym (nexts_printed w) i;
+      pools = pools i;
+    }

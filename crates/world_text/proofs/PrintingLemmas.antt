@@ -1,0 +1,62 @@
+-- Loops that print what two lists have side by side, and texts of lines.
+use Rattle.std.proofs.Common.{◌≡◌, ℕ, zero, suc, List, [], ◌∷◌, ◌++◌, length, take, drop, min, arith, Option, Some, None, refl, sym, ap, ◌∙◌, append_assoc, ◌⊎◌, inl, inr, Bor, Iter}
+use Rattle.std.specs.List.{zip}
+use Rattle.std.specs.declared.iter.Zip.{Zip}
+use Rattle.std.specs.Iterator.Adapters.{zip_first, zip_second}
+use Rattle.std.specs.Slice.Iter.{iter_rest}
+use Rattle.std.proofs.iter.Yields.{fronts}
+use Rattle.std.proofs.lemmas.Iterator.{zips}
+use Rattle.std.proofs.lemmas.List.{append-nil}
+use Rattle.std.proofs.lemmas.Grind.{flat_map-append}
+use Rattle.std.proofs.lemmas.Slice.Zip.{Zip-more, either_empty_from_Zip}
+use Rattle.world_text.specs.declared.format.Format.{Format}
+use Rattle.world_text.specs.LineKinds.{Line}
+use Rattle.world_text.specs.Lines.{text_of}
+
+-- the pairs that a zip of two slices has left
+abbrev pub left_of : {A B : Type 0} → Zip (Iter A) (Iter B) → List (A × B)
+left_of s = zip (iter_rest (zip_first s)) (iter_rest (zip_second s))
+
+-- what is left before a pair is yielded is that pair and what is left behind it
+pub left_more : {A B : Type 0} (s t : Zip (Iter A) (Iter B)) (r : Option (Bor A × Bor B)) (p : Bor A × Bor B) → r ≡ Some p → zips fronts fronts s r t → left_of s ≡ (p.0.now, p.1.now) ∷ left_of t
+left_more s t r p is steps = let h = Zip-more s t r p is steps in λ i. zip (h.0 i) (h.1 i)
+
+none_left : {A B : Type 0} (xs : List A) (ys : List B) → (xs ≡ []) ⊎ (ys ≡ []) → zip xs ys ≡ []
+none_left xs ys (inl e) = ap (λ zs. zip zs ys) e
+none_left [] ys (inr e) = refl
+none_left (x ∷ xs) ys (inr e) = ap (zip (x ∷ xs)) e
+
+-- nothing is left where none is yielded
+pub left_none : {A B : Type 0} (s t : Zip (Iter A) (Iter B)) (r : Option (Bor A × Bor B)) → r ≡ None → zips fronts fronts s r t → left_of s ≡ []
+left_none s t r is steps = none_left _ _ (either_empty_from_Zip s t r is steps)
+
+-- one part more is printed, and that much less is left
+pub printed_more : {Z : Type 0} (text : List Z → List ℕ) (part : Z → List ℕ) → ((z : Z) (zs : List Z) → text (z ∷ zs) ≡ part z ++ text zs) → (z : Z) (before after : List Z) → before ≡ z ∷ after → (old new whole : List ℕ) → new ≡ old ++ part z → old ++ text before ≡ whole → new ++ text after ≡ whole
+printed_more text part cons z before after split old new whole pushed invariant =
+    ap (λ bytes. bytes ++ text after) pushed
+    ∙ append_assoc old (part z) (text after)
+    ∙ ap (λ bytes. old ++ bytes) (sym (ap text split ∙ cons z after))
+    ∙ invariant
+
+-- where nothing is left, the whole is printed
+pub printed_all : {Z : Type 0} (text : List Z → List ℕ) (left : List Z) → left ≡ [] → text [] ≡ [] → (out whole : List ℕ) → out ++ text left ≡ whole → out ≡ whole
+printed_all text left none empty out whole invariant = sym (append-nil out) ∙ ap (λ bytes. out ++ bytes) (sym (ap text none ∙ empty)) ∙ invariant
+
+pub text_of-append : (format : Format) (a b : List Line) → text_of format (a ++ b) ≡ text_of format a ++ text_of format b
+text_of-append format a b = flat_map-append _ a b
+
+-- side by side past the end of one of them two lists have nothing
+pub none_past : {A B : Type 0} (n : ℕ) (xs : List A) (ys : List B) → n ≡ min (length xs) (length ys) → zip (drop n xs) (drop n ys) ≡ []
+none_past zero [] ys e = refl
+none_past zero (x ∷ xs) [] e = refl
+none_past zero (x ∷ xs) (y ∷ ys) e = absurd (omega arith)
+none_past (suc n) [] ys e = refl
+none_past (suc n) (x ∷ xs) [] e = absurd (omega arith)
+none_past (suc n) (x ∷ xs) (y ∷ ys) e = none_past n xs ys (omega arith)
+
+-- a list cut to a number of items beside one that has no more
+pub zip-take : {A B : Type 0} (n : ℕ) (xs : List A) (ys : List B) → zip (take n xs) ys ≡ zip (take n xs) (take n ys)
+zip-take zero xs ys = refl
+zip-take (suc n) [] ys = refl
+zip-take (suc n) (x ∷ xs) [] = refl
+zip-take (suc n) (x ∷ xs) (y ∷ ys) = ap (λ zs. (x, y) ∷ zs) (zip-take n xs ys)

@@ -1,0 +1,109 @@
+-- Documents: which bytes stand for which world, where the first bad line of other bytes is, and the one canonical text.
+use Rattle.std.specs.Prelude.{◌≡◌, ◌≢◌, ℕ, ℤ, ◌+◌, ◌≤◌, Bool, true, false, not, ◌&&◌, List, [], ◌∷◌, ◌++◌, map, length, take}
+use Rattle.std.specs.List.{flat_map, list_any, AllByRecursion, zip}
+use Rattle.entity_id.specs.declared.entity.Profile.{Profile}
+use Rattle.entity_id.specs.declared.entity.Entity.{Entity}
+use Rattle.entity_id.specs.Fields.{entity_in}
+use Rattle.world_model.specs.declared.component.Decl.{Decl}
+use Rattle.world_model.specs.declared.component.Kind.{Kind}
+use Rattle.world_model.specs.declared.component.Kind.TheVariants as kind
+use Rattle.world_model.specs.declared.component.Row.{Row}
+use Rattle.world_model.specs.declared.world.World.{World}
+use Rattle.world_model.specs.Components.{kinds_of}
+use Rattle.world_model.specs.Worlds.{IsLawful}
+use Rattle.world_text.specs.declared.format.Format.{Format}
+use Rattle.world_text.specs.declared.section.Section.TheVariants as section
+use Rattle.world_text.specs.declared.document.Document.{Document}
+use Rattle.world_text.specs.FieldValues.{FieldValue}
+use Rattle.world_text.specs.FieldValues as value
+use Rattle.world_text.specs.LineKinds.{Line}
+use Rattle.world_text.specs.LineKinds as line
+use Rattle.world_text.specs.Formats.{tick_limit, version_1}
+use Rattle.world_text.specs.Lines.{IsLine, IsNamedDecl, line_text, text_of}
+use Rattle.world_text.specs.Meaning.{world_of}
+use Rattle.world_text.specs.Fitting.{last_section, has_name, fits, fit_after}
+
+-- admissible lines: each is a line of the format, and each is admissible after those before it
+pub record AreAdmissible (format : Format) (lines : List Line) : Type 0 where
+  pub each : AllByRecursion (IsLine format) lines
+  pub fit : fit_after format [] lines ≡ true
+
+-- these bytes are a document of this format: admissible lines, up to its end, that stand for this world
+pub record IsDocumentOf (format : Format) (bytes : List ℕ) (document : Document) : Type 0 where
+  pub lines : List Line
+  pub admissible : AreAdmissible format lines
+  pub ended : last_section lines ≡ section.End
+  pub spelled : bytes ≡ text_of format lines
+  pub world_is : document.world ≡ world_of format lines
+
+-- the line of this number is the first that is not admissible, or that is missing: the lines before it are admissible, what
+-- stands behind them does not begin with an admissible line and its end, and where nothing stands there they have not reached
+-- the end
+pub record IsBadLineOf (format : Format) (bytes : List ℕ) (number : ℕ) : Type 0 where
+  pub lines : List Line
+  pub rest : List ℕ
+  pub counted : number ≡ length lines + 1
+  pub admissible : AreAdmissible format lines
+  pub spelled : bytes ≡ text_of format lines ++ rest
+  pub no_line : (l : Line) (more : List ℕ) → IsLine format l → rest ≡ line_text format l ++ 10 ∷ more → fits format lines l ≡ false
+  pub no_end : rest ≡ [] → last_section lines ≢ section.End
+
+-- a document, whose format is version 1
+abbrev pub IsDocument : List ℕ → Document → Type 0
+IsDocument bytes document = IsDocumentOf version_1 bytes document
+
+-- the first bad line of what is no document
+abbrev pub IsBadLine : List ℕ → ℕ → Type 0
+IsBadLine bytes number = IsBadLineOf version_1 bytes number
+
+-- no two components have one name
+abbrev pub are_named_apart : List Decl → Bool
+are_named_apart [] = true
+are_named_apart (decl ∷ decls) = not (list_any (λ other. has_name other.name decl) decls) && are_named_apart decls
+
+-- a lawful document of this format: a lawful world of its profile, with a tick number within the limit, whose components have
+-- names of the form of names, no two the same
+pub record IsLawfulDocumentOf (format : Format) (document : Document) : Type 0 where
+  pub world : IsLawful format.slot_limit document.world
+  pub profile : document.world.profile ≡ format.profile
+  pub tick : document.world.tick ≤ tick_limit
+  pub named : AllByRecursion IsNamedDecl document.world.decls
+  pub apart : are_named_apart document.world.decls ≡ true
+
+-- a lawful document
+abbrev pub IsLawfulDocument : Document → Type 0
+IsLawfulDocument document = IsLawfulDocumentOf version_1 document
+
+-- ---- the canonical text
+
+-- the value in a field of this kind
+abbrev pub value_in : Profile → Kind → ℤ → FieldValue
+value_in profile kind.Int field = value.Int field
+value_in profile kind.Ref field = value.Ref (entity_in profile field)
+
+-- the values in the fields of a component's row
+abbrev pub values_in : Profile → Decl → Row → List FieldValue
+values_in profile decl row = map (λ pair. value_in profile pair.0 pair.1) (zip (kinds_of decl) (take decl.count row.f))
+
+-- the line of a row
+abbrev pub row_line : Profile → Decl → Entity × Row → Line
+row_line profile decl entry = line.Row entry.0 (values_in profile decl entry.1)
+
+-- the lines of a component's rows
+abbrev pub pool_lines : Profile → Decl × List (Entity × Row) → List Line
+pool_lines profile pool = line.Pool pool.0.name ∷ map (row_line profile pool.0) pool.1
+
+-- the lines of a world, in their one order
+abbrev pub lines_of : World → List Line
+lines_of world =
+    line.Version
+    ∷ (map line.Component world.decls
+    ++ (line.Tick world.tick
+    ∷ (map line.Slot world.slots
+    ++ (map line.Next world.free
+    ++ (flat_map (pool_lines world.profile) (zip world.decls world.pools)
+    ++ line.End ∷ [])))))
+
+-- the one canonical text of a document
+abbrev pub text : Document → List ℕ
+text document = text_of version_1 (lines_of document.world)

@@ -1,0 +1,72 @@
+-- What a reader's draft stands for.
+use Rattle.std.specs.Prelude.{◌≡◌, ℕ, ◌-◌, Bool, true, false, List, ◌∷◌, ◌++◌, [], length, slice_get, slice_index_or}
+use Rattle.std.specs.Option.{option_map_or}
+use Rattle.entity_id.specs.declared.entity.Entity.{Entity}
+use Rattle.world_model.specs.declared.component.Row.{Row}
+use Rattle.world_model.specs.Components.{kinds_of}
+use Rattle.world_text.specs.FieldValues.{FieldValue}
+use Rattle.world_text.specs.LineKinds as line
+use Rattle.std.specs.List.{flat_map}
+use Rattle.world_model.specs.declared.world.World.{World}
+use Rattle.world_text.specs.LineKinds.{Line}
+use Rattle.world_text.specs.declared.draft.Draft.{Draft}
+use Rattle.world_text.specs.Lines.{IsLine, line_text}
+use Rattle.world_text.specs.Meaning.{decl_in, tick_in, slot_in, next_in, row_of, pools_in, settled}
+use Rattle.world_text.specs.Fitting.{are_of_kinds, last_section, fits}
+
+-- the draft after these lines
+pub record Stands (draft : Draft) (lines : List Line) : Type 0 where
+  pub section : draft.section ≡ last_section lines
+  pub decls : draft.decls.items ≡ flat_map decl_in lines
+  pub tick : draft.tick ≡ slice_index_or (flat_map tick_in lines) 0 0
+  pub slots : draft.slots.items ≡ flat_map slot_in lines
+  pub free : draft.free.items ≡ flat_map next_in lines
+  pub settled : draft.settled.items ≡ settled lines
+  pub pools : draft.pools.items ≡ pools_in draft.format.profile lines
+
+-- a line fits, whichever lines the draft stands for, and the new draft stands for it too, in the same format
+pub record Takes (old : Draft) (line : Line) (new : Draft) : Type 0 where
+  pub format : new.format ≡ old.format
+  pub fit : (before : List Line) → Stands old before → fits old.format before line ≡ true
+  pub stands : (before : List Line) → Stands old before → Stands new (before ++ line ∷ [])
+
+-- a line doesn't fit, whichever lines the draft stands for
+abbrev pub Refuses : Draft → Line → Type 0
+Refuses draft line = (before : List Line) → Stands draft before → fits draft.format before line ≡ false
+
+-- whether values are of the kinds of the last pool's component
+abbrev pub are_of_last_kinds : Draft → List FieldValue → Bool
+are_of_last_kinds draft values =
+    option_map_or (λ decl. are_of_kinds (kinds_of decl) values) (slice_get draft.decls.items (length draft.pools.items - 1)) false
+
+-- a row goes on the last pool, whichever values it holds that are of the kinds of that pool's component
+abbrev pub TakesRow : Draft → Entity → Row → Draft → Type 0
+TakesRow old entity row new =
+    (values : List FieldValue) → row ≡ row_of old.format.profile values → are_of_last_kinds old values ≡ true → Takes old (line.Row entity values) new
+
+-- no row of this identifier goes on the last pool
+abbrev pub RefusesRow : Draft → Entity → Type 0
+RefusesRow draft entity = (values : List FieldValue) → Refuses draft (line.Row entity values)
+
+-- the front of a text is a line that fits, with its end, and after is what stands behind it
+pub record TakesLine (old : Draft) (bytes after : List ℕ) (new : Draft) : Type 0 where
+  pub line : Line
+  pub is : IsLine old.format line
+  pub spelled : bytes ≡ line_text old.format line ++ 10 ∷ after
+  pub taken : Takes old line new
+
+-- no line that fits begins a text
+abbrev pub RefusesLine : Draft → List ℕ → Type 0
+RefusesLine draft bytes = (l : Line) (more : List ℕ) → IsLine draft.format l → bytes ≡ line_text draft.format l ++ 10 ∷ more → Refuses draft l
+
+-- the world of a draft
+abbrev pub world_in : Draft → World
+world_in draft = record {
+  profile = draft.format.profile;
+  decls = draft.decls.items;
+  groups = [];
+  tick = draft.tick;
+  slots = draft.slots.items;
+  free = draft.free.items;
+  pools = draft.pools.items;
+}

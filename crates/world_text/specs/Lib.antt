@@ -1,0 +1,11 @@
+pub mod Formats
+pub mod FieldValues
+pub mod LineKinds
+pub mod Sections
+pub mod Lines
+pub mod Meaning
+pub mod Fitting
+pub mod Documents
+pub mod Refusals
+pub mod Reading
+pub mod Drafts

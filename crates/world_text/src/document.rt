@@ -1,0 +1,8 @@
+use world_model::World;
+
+/// What a document stands for.
+#[derive(Debug, Drop)]
+pub struct Document {
+    /// The world that it describes.
+    pub world: World,
+}

@@ -1,0 +1,234 @@
+ghost use Rattle.std.specs.Prelude.{◌≡◌, ◌+◌, ◌*◌, ◌≤◌, ◌++◌, ◌∷◌, [], length, drop, map, OnOk, IfOk};
+ghost use Rattle.std.specs.Fmt.{decimal, signed_decimal};
+ghost use Rattle.std.specs.List.{flat_map, zip};
+ghost use Rattle.world_text.specs.Formats.{version_1};
+ghost use Rattle.world_text.specs.Lines.{line_text, kind_text, value_text, values_text, text_of};
+ghost use Rattle.world_text.specs.Documents.{IsLawfulDocument, text, value_in, row_line, pool_lines};
+ghost use Rattle.world_text.specs.LineKinds.{Line};
+
+use super::Document;
+use super::format::VERSION_1;
+use entity_id::{Entity, OutOfMemory};
+use itoa::write_digits;
+use std::alloc::Global;
+use world_model::{Decl, Kind, Row, Rows, Slot};
+
+// Room for a line, which is written from its end to its front. The longest is that of a row, 114
+// bytes: `row `, an identifier of 21, four values of at most 21, each behind a space, and the end.
+const ROOM: usize = 128;
+
+/// The canonical text of a lawful document: its lines in their one order, rows in ascending index.
+/// The text is a document that stands for the same. Refused where memory for the text runs out.
+pub fn write_world(alloc: Global, document: &Document) -> Result<Vec<u8>, OutOfMemory>
+    requires { IsLawfulDocument document.now }
+    ensures { IfOk result (λ out. out.items ≡ text document.now) }
+{
+    let world = &document.world;
+    let mut out = Vec::new(alloc);
+    push_number(&mut out, b"world ", VERSION_1.version)?;
+    push_decls(&mut out, world.decls.as_slice())?;
+    push_number(&mut out, b"tick ", world.tick)?;
+    push_slots(&mut out, world.slots.as_slice())?;
+    push_nexts(&mut out, world.free.as_slice())?;
+    push_pools(&mut out, world.decls.as_slice(), world.pools.as_slice())?;
+    out.extend_from_slice(b"end\n")?;
+    Ok(out)
+}
+
+// A line of a word and a number.
+fn push_number(out: &mut Vec<u8>, word: &[u8], number: u64) -> Result<(), OutOfMemory>
+    requires { length word.now ≤ 6 }
+    ensures { OnOk result (out.new.items ≡
+        out.old.items ++ (word.now ++ decimal number ++ 10 ∷ [])) }
+{
+    let mut line = [0u8; ROOM];
+    let at = write_number(word, number, &mut line);
+    out.extend_from_slice(&line[at..])?;
+    Ok(())
+}
+
+// Writes a line of a word and a number at the end of the buffer, and says where it begins.
+fn write_number(word: &[u8], number: u64, line: &mut [u8; ROOM]) -> usize
+    requires { length word.now ≤ 6 }
+    ensures within { result ≤ 128 }
+    ensures written { drop result line.new ≡ word.now ++ decimal number ++ 10 ∷ [] }
+{
+    line[ROOM - 1] = b'\n';
+    let at = write_digits(number, line, ROOM - 1);
+    write_word(word, line, at)
+}
+
+// Writes a word so that it ends at `end`, and says where it begins.
+fn write_word(word: &[u8], buf: &mut [u8], end: usize) -> usize
+    requires { (length word.now ≤ end) × (end ≤ length buf.old) }
+    ensures start { result + length word.now ≡ end }
+    ensures written { drop result buf.new ≡ word.now ++ drop end buf.old }
+{
+    let start = end - word.len();
+    buf[start..end].copy_from_slice(word);
+    start
+}
+
+fn push_decls(out: &mut Vec<u8>, decls: &[Decl]) -> Result<(), OutOfMemory>
+    ensures { OnOk result (out.new.items ≡
+        out.old.items ++ text_of version_1 (map Line.Component decls.now)) }
+{
+    for decl in decls {
+        push_decl(out, decl)?;
+    }
+    Ok(())
+}
+
+fn push_decl(out: &mut Vec<u8>, decl: &Decl) -> Result<(), OutOfMemory>
+    ensures { OnOk result (out.new.items ≡
+        out.old.items ++ (line_text version_1 (Line.Component decl.now) ++ 10 ∷ [])) }
+{
+    out.extend_from_slice(b"component ")?;
+    out.extend_from_slice(decl.name.as_slice())?;
+    push_kinds(out, decl.field_kinds())?;
+    out.push(b'\n')?;
+    Ok(())
+}
+
+fn push_kinds(out: &mut Vec<u8>, kinds: &[Kind]) -> Result<(), OutOfMemory>
+    ensures { OnOk result (out.new.items ≡ out.old.items ++ flat_map kind_text kinds.now) }
+{
+    for kind in kinds {
+        match kind {
+            Kind::Int => out.extend_from_slice(b" int")?,
+            Kind::Ref => out.extend_from_slice(b" entity")?,
+        }
+    }
+    Ok(())
+}
+
+fn push_slots(out: &mut Vec<u8>, slots: &[Slot]) -> Result<(), OutOfMemory>
+    ensures { OnOk result (out.new.items ≡
+        out.old.items ++ text_of version_1 (map Line.Slot slots.now)) }
+{
+    for slot in slots {
+        push_slot(out, *slot)?;
+    }
+    Ok(())
+}
+
+fn push_slot(out: &mut Vec<u8>, slot: Slot) -> Result<(), OutOfMemory>
+    ensures { OnOk result (out.new.items ≡
+        out.old.items ++ (line_text version_1 (Line.Slot slot) ++ 10 ∷ [])) }
+{
+    let word = if slot.live { b"live " } else { b"free " };
+    push_number(out, word, u64::from(slot.version))
+}
+
+fn push_nexts(out: &mut Vec<u8>, free: &[u32]) -> Result<(), OutOfMemory>
+    ensures { OnOk result (out.new.items ≡
+        out.old.items ++ text_of version_1 (map Line.Next free.now)) }
+{
+    for index in free {
+        push_number(out, b"next ", u64::from(*index))?;
+    }
+    Ok(())
+}
+
+fn push_pools(out: &mut Vec<u8>, decls: &[Decl], pools: &[Rows]) -> Result<(), OutOfMemory>
+    ensures { OnOk result (out.new.items ≡ out.old.items ++
+        text_of version_1 (flat_map (pool_lines version_1.profile) (zip decls.now pools.now))) }
+{
+    for (decl, rows) in decls.iter().zip(pools) {
+        push_pool(out, decl, rows.as_slice())?;
+    }
+    Ok(())
+}
+
+fn push_pool(out: &mut Vec<u8>, decl: &Decl, rows: &[(Entity, Row)]) -> Result<(), OutOfMemory>
+    ensures { OnOk result (out.new.items ≡
+        out.old.items ++ text_of version_1 (pool_lines version_1.profile (decl.now, rows.now))) }
+{
+    out.extend_from_slice(b"pool ")?;
+    out.extend_from_slice(decl.name.as_slice())?;
+    out.push(b'\n')?;
+    push_rows(out, decl, rows)
+}
+
+fn push_rows(out: &mut Vec<u8>, decl: &Decl, rows: &[(Entity, Row)]) -> Result<(), OutOfMemory>
+    ensures { OnOk result (out.new.items ≡
+        out.old.items ++ text_of version_1 (map (row_line version_1.profile decl.now) rows.now)) }
+{
+    for entry in rows {
+        push_row(out, decl, entry)?;
+    }
+    Ok(())
+}
+
+fn push_row(out: &mut Vec<u8>, decl: &Decl, entry: &(Entity, Row)) -> Result<(), OutOfMemory>
+    ensures { OnOk result (out.new.items ≡ out.old.items ++
+        (line_text version_1 (row_line version_1.profile decl.now entry.now) ++ 10 ∷ [])) }
+{
+    let mut line = [0u8; ROOM];
+    let at = write_row(decl, entry, &mut line);
+    out.extend_from_slice(&line[at..])?;
+    Ok(())
+}
+
+// Writes the line of a row at the end of the buffer, and says where it begins.
+fn write_row(decl: &Decl, entry: &(Entity, Row), line: &mut [u8; ROOM]) -> usize
+    ensures within { result ≤ 128 }
+    ensures written { drop result line.new ≡
+        line_text version_1 (row_line version_1.profile decl.now entry.now) ++ 10 ∷ [] }
+{
+    line[ROOM - 1] = b'\n';
+    let values = write_values(decl.field_kinds(), &entry.1.f, line, ROOM - 1);
+    let entity = entry.0.write_text(VERSION_1.profile, line, values);
+    write_word(b"row ", line, entity)
+}
+
+// Writes the values of a row, each behind a space, as far as both slices go, so that they end at
+// `end`, and says where they begin.
+fn write_values(kinds: &[Kind], fields: &[i64], buf: &mut [u8], end: usize) -> usize
+    requires { (22 * length fields.now ≤ end) × (end ≤ length buf.old) }
+    ensures within { (result ≤ end) × (end ≤ result + 22 * length fields.now) }
+    ensures written { drop result buf.new ≡ values_text version_1.profile
+        (map (λ pair. value_in version_1.profile pair.0 pair.1) (zip kinds.now fields.now)) ++
+        drop end buf.old }
+{
+    let count = kinds.len().min(fields.len());
+    let mut at = end;
+    for place in (0..count).rev() {
+        at = write_value(kinds[place], fields[place], buf, at);
+    }
+    at
+}
+
+// Writes a space and a value so that they end at `end`, and says where they begin.
+fn write_value(kind: Kind, field: i64, buf: &mut [u8], end: usize) -> usize
+    requires { (22 ≤ end) × (end ≤ length buf.old) }
+    ensures within { (result ≤ end) × (end ≤ result + 22) }
+    ensures written { drop result buf.new ≡
+        32 ∷ value_text version_1.profile (value_in version_1.profile kind field) ++
+        drop end buf.old }
+{
+    let text = match kind {
+        Kind::Int => write_integer(field, buf, end),
+        Kind::Ref => Entity::from_field(VERSION_1.profile, field).write_text(
+            VERSION_1.profile,
+            buf,
+            end,
+        ),
+    };
+    buf[text - 1] = b' ';
+    text - 1
+}
+
+// Writes an integer so that it ends at `end`, and says where it begins.
+fn write_integer(number: i64, buf: &mut [u8], end: usize) -> usize
+    requires { (20 ≤ end) × (end ≤ length buf.old) }
+    ensures within { (result ≤ end) × (end ≤ result + 20) }
+    ensures written { drop result buf.new ≡ signed_decimal number ++ drop end buf.old }
+{
+    let digits = write_digits(number.unsigned_abs(), buf, end);
+    if number >= 0 {
+        return digits;
+    }
+    buf[digits - 1] = b'-';
+    digits - 1
+}

@@ -1,0 +1,120 @@
+ghost use Rattle.std.specs.Prelude.{◌≡◌, ◌++◌, [], ℕ, List, codes, IfOk, IfErr, IsErrOf};
+ghost use Rattle.world_text.specs.Formats.{IsFormat};
+ghost use Rattle.world_text.specs.LineKinds.{Line};
+ghost use Rattle.world_text.specs.Documents.{IsDocument, IsLawfulDocument};
+ghost use Rattle.world_text.specs.Drafts.{Stands, Refuses, TakesLine, RefusesLine, world_in};
+ghost use Rattle.world_text.specs.Refusals.{IsCause};
+
+use super::adding::add_end;
+use super::draft::Draft;
+use super::format::{Format, VERSION_1};
+use super::name_lines::{read_component, read_pool};
+use super::number_lines::{read_next, read_slot, read_tick, read_version};
+use super::row_lines::read_row;
+use super::section::Section;
+use super::words::after;
+use super::{Document, LineFault, TextRefused};
+use std::alloc::Global;
+use world_model::{DeclList, FreeList, GroupList, PoolList, SlotList, World};
+
+fn empty_draft(alloc: Global, format: Format) -> Draft
+    ensures format { result.format ≡ format }
+    ensures stands { Stands result [] }
+{
+    Draft {
+        format,
+        section: Section::Start,
+        decls: Vec::new(alloc),
+        tick: 0,
+        slots: Vec::new(alloc),
+        free: Vec::new(alloc),
+        settled: Vec::new(alloc),
+        unsettled: 0,
+        pools: Vec::new(alloc),
+    }
+}
+
+// Reads the line at the front, and gives what stands behind it. The most frequent lines come first.
+fn read_line<'a>(alloc: Global, draft: &mut Draft, bytes: &'a [u8]) -> Result<&'a [u8], LineFault>
+    requires { IsFormat draft.old.format }
+    ensures ok { IfOk result (λ after. TakesLine draft.old bytes.now after.now draft.new) }
+    ensures bad { IsErrOf result LineFault.Bad → RefusesLine draft.old bytes.now }
+{
+    if let Some(text) = after(bytes, b"row ") {
+        return read_row(draft, text);
+    }
+    if let Some(text) = after(bytes, b"live ") {
+        return read_slot(draft, text, true);
+    }
+    if let Some(text) = after(bytes, b"free ") {
+        return read_slot(draft, text, false);
+    }
+    if let Some(text) = after(bytes, b"next ") {
+        return read_next(draft, text);
+    }
+    if let Some(text) = after(bytes, b"pool ") {
+        return read_pool(alloc, draft, text);
+    }
+    if let Some(text) = after(bytes, b"component ") {
+        return read_component(alloc, draft, text);
+    }
+    if let Some(text) = after(bytes, b"tick ") {
+        return read_tick(draft, text);
+    }
+    if let Some(text) = after(bytes, b"world ") {
+        return read_version(draft, text);
+    }
+    read_end(draft, bytes)
+}
+
+// Reads the line `end`.
+fn read_end<'a>(draft: &mut Draft, bytes: &'a [u8]) -> Result<&'a [u8], LineFault>
+    ensures ok { IfOk result (λ after. TakesLine draft.old bytes.now after.now draft.new) }
+    ensures none { IsErrOf result LineFault.Bad →
+        (more : List ℕ) → bytes.now ≡ codes "end\n" ++ more → Refuses draft.old Line.End }
+{
+    let Some(after) = after(bytes, b"end\n") else {
+        return Err(LineFault::Bad);
+    };
+    add_end(draft)?;
+    Ok(after)
+}
+
+/// The document that a text is. `BadLine` comes exactly where that line is the first that is not
+/// admissible or that is missing, and `OutOfMemory` for want of memory.
+pub fn read_world(alloc: Global, bytes: &[u8]) -> Result<Document, TextRefused>
+    ensures document { IfOk result (λ document. IsDocument bytes.now document) }
+    ensures lawful { IfOk result (λ document. IsLawfulDocument document) }
+    ensures cause { IfErr result (IsCause bytes.now) }
+{
+    let mut draft = empty_draft(alloc, VERSION_1);
+    let mut rest = bytes;
+    let mut lines = 0;
+    while !rest.is_empty() {
+        match read_line(alloc, &mut draft, rest) {
+            Ok(after) => rest = after,
+            Err(LineFault::Bad) => return Err(TextRefused::BadLine { line: lines + 1 }),
+            Err(LineFault::OutOfMemory) => return Err(TextRefused::OutOfMemory),
+        }
+        lines += 1;
+    }
+    if draft.section != Section::End {
+        return Err(TextRefused::BadLine { line: lines + 1 });
+    }
+    Ok(finished(alloc, draft))
+}
+
+fn finished(alloc: Global, draft: Draft) -> Document
+    ensures { result.world ≡ world_in draft }
+{
+    let world = World {
+        profile: draft.format.profile,
+        decls: DeclList::from_vec(draft.decls),
+        groups: GroupList::from_vec(Vec::new(alloc)),
+        tick: draft.tick,
+        slots: SlotList::from_vec(draft.slots),
+        free: FreeList::from_vec(draft.free),
+        pools: PoolList::from_vec(draft.pools),
+    };
+    Document { world }
+}
