@@ -1,0 +1,97 @@
+-- How a call of the program may end, and what each ending means.
+use Rattle.std.specs.Prelude.{◌≡◌, ℕ, ◌<◌, ◌≤◌, List, [], ◌∷◌, ◌++◌, length, Option, Some, None, IfSome, codes}
+use Rattle.std.specs.Fmt.{decimal}
+use Rattle.std.specs.Io.KnownBytes.{IsAtEnd}
+use Rattle.std.specs.declared.string.String.{String}
+use Rattle.ecs_io.specs.Streams.{Rose, Grows, GrowsByFront, Stays}
+use Rattle.world_top.specs.declared.verb.Verb.{Verb}
+use Rattle.world_top.specs.declared.outcome.Outcome.{Outcome}
+use Rattle.world_top.specs.declared.outcome.Outcome.TheVariants as ending
+use Rattle.world_top.specs.Output.{verb_of, IsOutput, IsBadInput}
+
+-- the longest input that the program reads
+abbrev pub input_limit : ℕ
+input_limit = 67108864
+
+-- a source and a sink around a call
+pub record Streams : Type 0 where
+  -- what the source told that it would give, before the call and after it
+  pub input : Option (List ℕ)
+  pub rest : Option (List ℕ)
+  -- how often it had failed
+  pub reads_before : ℕ
+  pub reads_after : ℕ
+  -- how often the sink had failed
+  pub writes_before : ℕ
+  pub writes_after : ℕ
+
+-- an input within the limit was read to its end, and this holds of it where the source told it
+abbrev pub WasRead : Option (List ℕ) → Option (List ℕ) → (List ℕ → Type 0) → Type 0
+WasRead input rest holds = IsAtEnd rest × IfSome input (λ bytes. (length bytes ≤ input_limit) × holds bytes)
+
+-- the output of a command for its input went to a sink in this way
+abbrev pub Prints : Verb → Streams → (List ℕ → Type 0) → Type 0
+Prints verb s by = WasRead s.input s.rest (λ input. (bytes : List ℕ) × IsOutput verb input bytes × by bytes)
+
+-- what each ending of a command means for its source and its sink, which held old before and holds new after
+abbrev pub Means : Verb → Streams → (List ℕ → Type 0) → (List ℕ → Type 0) → Outcome → Type 0
+Means verb s old new ending.Done = Prints verb s (Grows old new)
+Means verb s old new ending.Usage = ⊥
+Means verb s old new (ending.BadLine line) = WasRead s.input s.rest (λ input. IsBadInput verb input line) × Stays old new
+Means verb s old new ending.ReadFault = Rose s.reads_before s.reads_after × Stays old new
+Means verb s old new ending.WriteFault = Rose s.writes_before s.writes_after × Prints verb s (GrowsByFront old new)
+Means verb s old new ending.TooLong = IfSome s.input (λ input. input_limit < length input) × Stays old new
+Means verb s old new ending.OutOfMemory = Stays old new
+
+-- the same, where the words may be no command: usage comes exactly there, and nothing is written
+abbrev pub MeansFor : Option Verb → Streams → (List ℕ → Type 0) → (List ℕ → Type 0) → Outcome → Type 0
+MeansFor None s old new outcome = (outcome ≡ ending.Usage) × Stays old new
+MeansFor (Some verb) s old new outcome = Means verb s old new outcome
+
+-- the number of a status
+abbrev pub number_of : Outcome → ℕ
+number_of ending.Done = 0
+number_of ending.Usage = 2
+number_of (ending.BadLine line) = 3
+number_of ending.ReadFault = 4
+number_of ending.WriteFault = 5
+number_of ending.TooLong = 6
+number_of ending.OutOfMemory = 7
+
+-- the words that tell an ending
+abbrev pub fault_words : Outcome → List ℕ
+fault_words ending.Done = []
+fault_words ending.Usage = codes "world: usage\n"
+fault_words (ending.BadLine line) = codes "world: line "
+fault_words ending.ReadFault = codes "world: read fault\n"
+fault_words ending.WriteFault = codes "world: write fault\n"
+fault_words ending.TooLong = codes "world: input too long\n"
+fault_words ending.OutOfMemory = codes "world: out of memory\n"
+
+-- the number behind them, with the line's end (10)
+abbrev pub fault_number : Outcome → List ℕ
+fault_number (ending.BadLine line) = decimal line ++ 10 ∷ []
+fault_number _ = []
+
+-- the line that tells an ending, and nothing where all is done
+abbrev pub fault_line : Outcome → List ℕ
+fault_line outcome = fault_words outcome ++ fault_number outcome
+
+-- how a call of the program ends: with the number of an outcome that means what it says, and its line on the fault sink, whole
+-- where no write there failed and else a front of it
+pub record Ends {A : Type 0} (words : List (String A)) (s : Streams) (old new told_before told_after : List ℕ → Type 0) (faults_before faults_after number : ℕ) : Type 0 where
+  pub outcome : Outcome
+  pub status : number ≡ number_of outcome
+  pub meaning : MeansFor (verb_of words) s old new outcome
+  pub front : GrowsByFront told_before told_after (fault_line outcome)
+  pub whole : (Rose faults_before faults_after → ⊥) → Grows told_before told_after (fault_line outcome)
+
+-- why a document was not read
+abbrev pub IsRefusal : Verb → Option (List ℕ) → Option (List ℕ) → ℕ → ℕ → Outcome → Type 0
+IsRefusal verb input rest reads_before reads_after ending.Done = ⊥
+IsRefusal verb input rest reads_before reads_after ending.Usage = ⊥
+IsRefusal verb input rest reads_before reads_after (ending.BadLine line) = WasRead input rest (λ bytes. IsBadInput verb bytes line)
+IsRefusal verb input rest reads_before reads_after ending.ReadFault = Rose reads_before reads_after
+IsRefusal verb input rest reads_before reads_after ending.WriteFault = ⊥
+IsRefusal verb input rest reads_before reads_after ending.TooLong = IfSome input (λ bytes. input_limit < length bytes)
+IsRefusal verb input rest reads_before reads_after ending.OutOfMemory = Unit {0}

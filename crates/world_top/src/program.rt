@@ -1,0 +1,71 @@
+ghost use Rattle.std.specs.Prelude.{◌≡◌};
+ghost use Rattle.world_top.specs.Endings.{Ends};
+
+use super::report::report;
+use super::snapshot::snapshot;
+use super::verb::verb_of;
+use super::{Outcome, Status, Verb};
+use ecs_io::{Sink, Source};
+use std::alloc::Global;
+use std::sync::Wait;
+use std::thread::Threads;
+
+/// Does what the words say: all that the program does. What it prints goes to `sink`, and the line
+/// that tells any other ending than success to `faults`. Every status has its cause: 2 the words, 3
+/// the input's first bad line, 4 a failed read, 5 a failed write, 6 an input that is too long, 7 want
+/// of memory.
+pub fn top<R: Threads + Wait, S: Source, K: Sink, E: Sink>(
+    _rt: &R,
+    alloc: Global,
+    words: &[String],
+    source: &mut S,
+    sink: &mut K,
+    faults: &mut E,
+) -> Status
+    ensures { Ends words.now
+        (record {
+          input = S.left source.old;
+          rest = S.left source.new;
+          reads_before = S.faults source.old;
+          reads_after = S.faults source.new;
+          writes_before = K.faults sink.old;
+          writes_after = K.faults sink.new;
+        })
+        (K.holds sink.old) (K.holds sink.new)
+        (E.holds faults.old) (E.holds faults.new)
+        (E.faults faults.old) (E.faults faults.new)
+        result.number }
+{
+    plain(alloc, words, source, sink, faults)
+}
+
+/// As [`top`], on one thread. It always returns.
+pub fn plain<S: Source, K: Sink, E: Sink>(
+    alloc: Global,
+    words: &[String],
+    source: &mut S,
+    sink: &mut K,
+    faults: &mut E,
+) -> Status
+    ensures { Ends words.now
+        (record {
+          input = S.left source.old;
+          rest = S.left source.new;
+          reads_before = S.faults source.old;
+          reads_after = S.faults source.new;
+          writes_before = K.faults sink.old;
+          writes_after = K.faults sink.new;
+        })
+        (K.holds sink.old) (K.holds sink.new)
+        (E.holds faults.old) (E.holds faults.new)
+        (E.faults faults.old) (E.faults faults.new)
+        result.number }
+{
+    let outcome = match verb_of(words) {
+        Some(Verb::Snapshot) => snapshot(alloc, source, sink),
+        None => Outcome::Usage,
+    };
+    // A line that can't be written changes no status.
+    let _ = report(faults, outcome);
+    outcome.status()
+}
