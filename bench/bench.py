@@ -1,0 +1,222 @@
+#!/usr/bin/env python3
+"""Measures the built program: seconds, input per second and peak memory, alone or beside a second program.
+
+Both programs get the same words and the same input, which is made by the script and is the same at
+each run of it. They run by turns, so that a change in the machine's load meets both.
+"""
+
+import argparse
+import array
+import filecmp
+import os
+import random
+import shlex
+import statistics
+import sys
+import tempfile
+import time
+from typing import Callable, NamedTuple, Optional, TextIO
+
+PROGRAM = os.path.join(os.path.dirname(os.path.dirname(os.path.realpath(__file__))), "crates/world/out/world")
+MOST_INPUT = 64 * 1024 * 1024  # bytes that the program reads
+
+
+# The inputs
+
+
+class Component(NamedTuple):
+    """A component of the plain document: how many of 100 live entities have it, and its fields.
+
+    A field is the least and the greatest value of an `int`, or ENTITY.
+    """
+
+    name: str
+    share: int
+    fields: list[Optional[tuple[int, int]]]
+
+
+ENTITY = None
+
+COMPONENTS = [
+    Component("position", 70, [(0, 999), (0, 999)]),
+    Component("velocity", 50, [(-5, 5), (-5, 5)]),
+    Component("health", 50, [(0, 100)]),
+    Component("target", 40, [ENTITY]),
+    Component("flag", 20, []),
+    Component("stats", 10, [(0, 9), (-5000, 5000), (-(2**40), 2**40), (-(2**63), 2**63 - 1)]),
+]
+
+
+class Draws:
+    """Random numbers that are the same on each machine."""
+
+    def __init__(self, seed: int):
+        self.unit = random.Random(seed).random
+
+    def below(self, limit: int) -> int:
+        """A number from 0 up to `limit`, which isn't reached."""
+        return int(self.unit() * limit)
+
+    def between(self, low: int, high: int) -> int:
+        """A number from `low` to `high`, both included."""
+        return low + self.below(high - low + 1)
+
+
+def write_plain_document(out: TextIO, entities: int) -> None:
+    """Writes a document without groups and systems. One slot in 20 is free, one in 10 has a raised version."""
+    draws = Draws(entities)
+    versions = array.array("H", (draws.below(4095) if draws.below(10) == 0 else 0 for _ in range(entities)))
+    live = bytearray(draws.below(20) != 0 for _ in range(entities))
+
+    out.write("world 1\n")
+    for component in COMPONENTS:
+        kinds = ["entity" if field is ENTITY else "int" for field in component.fields]
+        out.write(" ".join(["component", component.name, *kinds]) + "\n")
+    out.write("tick 12345\n")
+    for index in range(entities):
+        out.write(f"{'live' if live[index] else 'free'} {versions[index]}\n")
+    free = [index for index in range(entities) if not live[index]]
+    for index in sorted(free, key=lambda _: draws.unit()):
+        out.write(f"next {index}\n")
+    for component in COMPONENTS:
+        write_pool(out, component, versions, live, draws)
+    out.write("end\n")
+
+
+def write_pool(out: TextIO, component: Component, versions: array.array, live: bytearray, draws: Draws) -> None:
+    """Writes a component's pool line and its rows."""
+    out.write(f"pool {component.name}\n")
+    for index in range(len(live)):
+        if live[index] and draws.below(100) < component.share:
+            values = [draw_value(field, versions, draws) for field in component.fields]
+            out.write(" ".join([f"row {index}:{versions[index]}", *values]) + "\n")
+
+
+def draw_value(field: Optional[tuple[int, int]], versions: array.array, draws: Draws) -> str:
+    """A value of the field's kind. One in 16 identifiers is null; the others name a slot, live or free."""
+    if field is not ENTITY:
+        return str(draws.between(*field))
+    if draws.below(16) == 0:
+        return "null"
+    index = draws.below(len(versions))
+    return f"{index}:{versions[index]}"
+
+
+class Workload(NamedTuple):
+    """What is measured: the program's words, and the function that writes its input for so many entities."""
+
+    name: str
+    words: list[str]
+    write_input: Callable[[TextIO, int], None]
+
+
+WORKLOADS = [
+    Workload("snapshot", ["snapshot"], write_plain_document),
+]
+
+
+# The runs
+
+
+class Run(NamedTuple):
+    """What one run took."""
+
+    seconds: float
+    peak_bytes: int
+
+
+def run_once(command: list[str], input_path: str, output_path: str) -> Run:
+    """Runs the command from file to file, and ends the script where its status isn't 0."""
+    with open(input_path, "rb") as source, open(output_path, "wb") as sink:
+        streams = [(os.POSIX_SPAWN_DUP2, source.fileno(), 0), (os.POSIX_SPAWN_DUP2, sink.fileno(), 1)]
+        start = time.perf_counter()
+        pid = os.posix_spawnp(command[0], command, os.environ, file_actions=streams)
+        _, status, usage = os.wait4(pid, 0)
+        seconds = time.perf_counter() - start
+    if status != 0:
+        sys.exit(f"{shlex.join(command)}: status {os.waitstatus_to_exitcode(status)}")
+    return Run(seconds, usage.ru_maxrss * 1024)
+
+
+class Summary(NamedTuple):
+    """What the runs of one program took."""
+
+    median: float
+    least: float
+    peak_bytes: int
+
+
+def summarize(runs: list[Run]) -> Summary:
+    """The median and the least time, and the greatest peak."""
+    seconds = [run.seconds for run in runs]
+    return Summary(statistics.median(seconds), min(seconds), max(run.peak_bytes for run in runs))
+
+
+def measure(commands: list[list[str]], input_path: str, outputs: list[str], rounds: int) -> list[Summary]:
+    """Runs the commands by turns, and keeps the last output of each."""
+    runs: list[list[Run]] = [[] for _ in commands]
+    for _ in range(rounds):
+        for command, output_path, done in zip(commands, outputs, runs):
+            done.append(run_once(command, input_path, output_path))
+    return [summarize(done) for done in runs]
+
+
+# The report
+
+
+def print_summaries(summaries: list[Summary], input_bytes: int) -> None:
+    """Prints a line for each program, and the ratios of the first to the second where there are two."""
+    print(f"{'':8} {'median s':>10} {'least s':>10} {'MB/s':>8} {'peak MB':>9}")
+    for name, summary in zip(["world", "beside"], summaries):
+        speed = input_bytes / summary.median / 1e6
+        print(f"{name:8} {summary.median:10.3f} {summary.least:10.3f} {speed:8.1f} {summary.peak_bytes / 1e6:9.1f}")
+    if len(summaries) == 2:
+        ours, other = summaries
+        print(f"{'ratio':8} {ours.median / other.median:10.2f} {ours.least / other.least:10.2f} {'':8} "
+              f"{ours.peak_bytes / other.peak_bytes:9.2f}")
+
+
+def write_input(workload: Workload, entities: int, path: str) -> int:
+    """Writes the workload's input, and returns its size in bytes."""
+    with open(path, "w", encoding="ascii", newline="\n") as out:
+        workload.write_input(out, entities)
+    size = os.path.getsize(path)
+    if size > MOST_INPUT:
+        sys.exit(f"the input has {size} bytes, and the program reads {MOST_INPUT}: take fewer entities")
+    return size
+
+
+def parse_options() -> argparse.Namespace:
+    """Reads the script's words."""
+    parser = argparse.ArgumentParser(description=__doc__, formatter_class=argparse.RawDescriptionHelpFormatter)
+    parser.add_argument("--workload", choices=[workload.name for workload in WORKLOADS], default=WORKLOADS[0].name)
+    parser.add_argument("--entities", type=int, default=1_000_000, help="entities of the input (1000000)")
+    parser.add_argument("--runs", type=int, default=5, help="runs of each program (5)")
+    parser.add_argument("--beside", metavar="CMD", type=shlex.split, help="a second program, without its words")
+    parser.add_argument("--keep", metavar="FILE", help="keep the input in this file")
+    return parser.parse_args()
+
+
+def main() -> int:
+    """Measures one workload. The status is 1 where the outputs differ."""
+    options = parse_options()
+    if not os.path.exists(PROGRAM):
+        sys.exit(f"{PROGRAM} isn't built: start bin/world once")
+    workload = next(workload for workload in WORKLOADS if workload.name == options.workload)
+    programs = [[PROGRAM]] + ([options.beside] if options.beside else [])
+    with tempfile.TemporaryDirectory() as folder:
+        input_path = options.keep or os.path.join(folder, "input")
+        outputs = [os.path.join(folder, f"output-{number}") for number in range(len(programs))]
+        size = write_input(workload, options.entities, input_path)
+        print(f"{workload.name}: {options.entities} entities, {size} bytes, {options.runs} runs each")
+        summaries = measure([program + workload.words for program in programs], input_path, outputs, options.runs)
+        print_summaries(summaries, size)
+        if len(outputs) == 2:
+            equal = filecmp.cmp(*outputs, shallow=False)
+            print("outputs: equal" if equal else "outputs: DIFFERENT")
+            return 0 if equal else 1
+    return 0
+
+
+if __name__ == "__main__":
+    sys.exit(main())
