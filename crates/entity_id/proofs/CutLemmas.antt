@@ -1,5 +1,5 @@
 -- Texts without a byte, and texts cut at it.
-use Rattle.std.proofs.Common.{◌≡◌, ℕ, true, List, [], ◌∷◌, ◌++◌, eqb, refl, ap₂}
+use Rattle.std.proofs.Common.{◌≡◌, ℕ, true, List, [], ◌∷◌, ◌++◌, eqb, refl, ap₂, subst}
 use Rattle.std.specs.Prelude.{◌==◌, not}
 use Rattle.std.specs.List.{list_all}
 use Rattle.std.proofs.lemmas.Bool.{and_parts, eq-eqb, not_from_true}
@@ -19,6 +19,17 @@ same_cut byte (c ∷ cs) (d ∷ ds) x y g h e =
 pub no_cut : (byte : ℕ) (a x : List ℕ) → Lacks byte (a ++ byte ∷ x) → ⊥
 no_cut byte [] x h = h.0 refl
 no_cut byte (c ∷ cs) x h = no_cut byte cs x h.1
+
+-- and at the last such byte
+pub same_last_cut : (byte : ℕ) (a b x y : List ℕ) → Lacks byte x → Lacks byte y → a ++ byte ∷ x ≡ b ++ byte ∷ y → (a ≡ b) × (x ≡ y)
+same_last_cut byte [] [] x y g h e = (refl, cc)
+same_last_cut byte [] (d ∷ ds) x y g h e = let tail : x ≡ ds ++ byte ∷ y = cc in absurd (no_cut byte ds y (subst (Lacks byte) tail g))
+same_last_cut byte (c ∷ cs) [] x y g h e = let tail : y ≡ cs ++ byte ∷ x = cc in absurd (no_cut byte cs x (subst (Lacks byte) tail h))
+same_last_cut byte (c ∷ cs) (d ∷ ds) x y g h e =
+    let head : c ≡ d = cc in
+    let tail : cs ++ byte ∷ x ≡ ds ++ byte ∷ y = cc in
+    let same = same_last_cut byte cs ds x y g h tail in
+    (ap₂ (λ k ks. k ∷ ks) head same.0, same.1)
 
 pub lacks_append : (byte : ℕ) (a b : List ℕ) → Lacks byte a → Lacks byte b → Lacks byte (a ++ b)
 lacks_append byte [] b g h = h

@@ -1,7 +1,13 @@
+pub mod ArrangeLemmas
 pub mod CutLemmas
 pub mod DecimalLemmas
 pub mod FrontLemmas
 pub mod ListLemmas
+pub mod MapChangeLemmas
 pub mod MapLemmas
+pub mod MatchLemmas
+pub mod PackedListLemmas
+pub mod PackedMapLemmas
 pub mod TextLemmas
 pub mod WorkedValues
+pub mod ZipLemmas

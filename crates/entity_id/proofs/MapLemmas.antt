@@ -50,7 +50,8 @@ pub lookup-filter_gone : {X : Type 0} (t : Entity → Bool) (p : Entity × X →
 lookup-filter_gone t p h [] = refl
 lookup-filter_gone t p h (e ∷ es) = gone_step t (p e) e (filter p es) (h e) (lookup-filter_gone t p h es)
 
-beside : {X : Type 0} (o : Option X) → option_or o None ≡ o
+-- what stands beside nothing stays
+pub beside : {X : Type 0} (o : Option X) → option_or o None ≡ o
 beside None = refl
 beside (Some x) = refl
 

@@ -1,6 +1,6 @@
 -- A finite map from identifiers, as the list of its entries in ascending index: a component's rows.
-use Rattle.std.specs.Prelude.{ℕ, ◌<◌, Bool, not, nat_lt, List, [], ◌∷◌, ◌++◌, map, filter, Option, is_some}
-use Rattle.std.specs.List.{AllByRecursion}
+use Rattle.std.specs.Prelude.{◌≡◌, ℕ, ◌<◌, Bool, not, ◌==◌, nat_lt, if◌then◌else◌, List, [], ◌∷◌, ◌++◌, map, filter, Option, Some, is_some, slice_get}
+use Rattle.std.specs.List.{AllByRecursion, list_any}
 use Rattle.std.specs.Map.{lookup}
 use Rattle.entity_id.specs.declared.entity.Entity.{Entity}
 use Rattle.entity_id.specs.Identifiers.{is_same}
@@ -36,3 +36,28 @@ IsAscendingBy number (x ∷ xs) = AllByRecursion (λ y. number x < number y) xs 
 -- entries in ascending index, so that no index comes twice
 abbrev pub IsAscending : {X : Type 0} → List (Entity × X) → Type 0
 IsAscending entries = IsAscendingBy (λ entry. entry.0.index) entries
+
+-- identifiers in ascending index
+abbrev pub AreAscending : List Entity → Type 0
+AreAscending entities = IsAscendingBy (λ entity. entity.index) entities
+
+-- a number stands at one place at most
+abbrev pub AreDistinctBy : {X : Type 0} → (X → ℕ) → List X → Type 0
+AreDistinctBy {X} number xs = (i j : ℕ) (x y : X) → slice_get xs i ≡ Some x → slice_get xs j ≡ Some y → number x ≡ number y → i ≡ j
+
+-- no two entries of one index, in whatever order they stand
+abbrev pub HasEachOnce : {X : Type 0} → List (Entity × X) → Type 0
+HasEachOnce entries = AreDistinctBy (λ entry. entry.0.index) entries
+
+-- whether an identifier with this index has a value
+abbrev pub has_index : {X : Type 0} → List (Entity × X) → ℕ → Bool
+has_index entries index = list_any (λ entry. entry.0.index == index) entries
+
+-- the entries in their places, with the value of one identifier set
+abbrev pub with_value : {X : Type 0} → List (Entity × X) → Entity → X → List (Entity × X)
+with_value entries entity value = map (λ entry. (entry.0, if is_same entity entry.0 then value else entry.1)) entries
+
+-- the finite map that entries in any order stand for
+abbrev pub map_of : {X : Type 0} → List (Entity × X) → List (Entity × X)
+map_of [] = []
+map_of (entry ∷ entries) = put (map_of entries) entry.0 entry.1

@@ -1,5 +1,5 @@
 -- Identifiers and profiles.
-use Rattle.std.specs.Prelude.{◌≤◌, ◌<◌, ◌^◌, Bool, ◌&&◌, ◌||◌, ◌==◌}
+use Rattle.std.specs.Prelude.{ℕ, ◌+◌, ◌≤◌, ◌<◌, ◌^◌, Bool, ◌&&◌, ◌||◌, ◌==◌, if◌then◌else◌}
 use Rattle.entity_id.specs.declared.entity.Profile.{Profile}
 use Rattle.entity_id.specs.declared.entity.Entity.{Entity}
 
@@ -36,3 +36,7 @@ null profile = record { index = profile.index_limit; version = profile.version_l
 -- whether two identifiers are the same, in index and version
 abbrev pub is_same : Entity → Entity → Bool
 is_same a b = (a.index == b.index) && (a.version == b.version)
+
+-- the version after one: the next number, or 0 where that is the version limit, which no entity gets
+abbrev pub next_version : Profile → ℕ → ℕ
+next_version profile version = if version + 1 == profile.version_limit then 0 else version + 1

@@ -116,9 +116,49 @@ fn fields_hold_identifiers(rt: HostRuntime) {
 }
 
 #[test]
+fn bits_are_identifiers_up_to_the_width(rt: HostRuntime) {
+    let rows = [
+        (P20_12, 0xFFFF_FFFF, Some(entity(1_048_575, 4_095))),
+        (P20_12, 1_048_581, Some(entity(5, 1))),
+        (P20_12, 4_294_967_296, None),
+        (P20_12, u64::MAX, None),
+        (P32_32, 4_294_967_296, Some(entity(0, 1))),
+        (P32_32, u64::MAX, Some(entity(4_294_967_295, 4_294_967_295))),
+    ];
+    for (profile, bits, read) in rows {
+        assert_eq!(rt; Entity::from_bits(profile, bits), read, "at {bits}");
+    }
+    let widest = Entity {
+        index: 1_048_575,
+        version: 4_095,
+    };
+    assert_eq!(rt; widest.to_bits(P20_12), 0xFFFF_FFFF);
+    let fifth = Entity {
+        index: 5,
+        version: 1,
+    };
+    assert_eq!(rt; fifth.to_bits(P20_12), 1_048_581);
+    assert_eq!(rt; fifth.to_bits(P32_32), 4_294_967_301);
+}
+
+#[test]
+fn the_version_after_the_last_is_0(rt: HostRuntime) {
+    assert_eq!(rt; next_version(P20_12, 0), 1);
+    assert_eq!(rt; next_version(P20_12, 4_093), 4_094);
+    assert_eq!(rt; next_version(P20_12, 4_094), 0);
+    assert_eq!(rt; next_version(P32_32, 4_294_967_294), 0);
+}
+
+#[test]
 fn a_text_is_cut_at_the_first_such_byte(rt: HostRuntime) {
     let parts = split_once(b"a,b,c", b',');
     assert_eq!(rt; parts, Some((b"a".as_slice(), b"b,c".as_slice())));
+}
+
+#[test]
+fn a_text_is_cut_at_the_last_such_byte(rt: HostRuntime) {
+    let parts = rsplit_once(b"a,b,c", b',');
+    assert_eq!(rt; parts, Some((b"a,b".as_slice(), b"c".as_slice())));
 }
 
 #[test]
@@ -138,5 +178,8 @@ fn lists_lend_what_they_were_made_of(rt: HostRuntime) -> Result<(), Fail> {
 #[test]
 fn the_laws_are_called() {
     fields_and_identifiers();
+    bits_and_identifiers();
     equal_lookups::<u32>(&[]);
+    matches_are_exact();
+    matches_ascend();
 }
