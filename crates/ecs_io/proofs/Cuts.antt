@@ -1,6 +1,7 @@
 -- Cuts of lists that reads and writes make.
-use Rattle.std.proofs.Common.{◌≡◌, ℕ, ◌+◌, ◌≤◌, List, Option, ◌++◌, take, drop, length, length-append, sym, ap, ◌∙◌, arith}
-use Rattle.std.proofs.lemmas.List.{take_at, drop-drop, take-append-drop, drop-take, take-take}
+use Rattle.std.proofs.Common.{◌≡◌, ℕ, ◌+◌, ◌-◌, ◌≤◌, min, List, Option, ◌++◌, take, drop, length, length-append, sym, ap, ◌∙◌, arith}
+use Rattle.std.proofs.lemmas.List.{take_at, take_min, drop-drop, take-append-drop, drop-take, take-take}
+use Rattle.std.proofs.Math.Seq.{take-append-add}
 use Rattle.std.proofs.KnownBytes.{Consumes-trans}
 use Rattle.std.specs.Io.KnownBytes.{Consumes}
 use Rattle.ecs_io.specs.Streams.{LosesAtMost}
@@ -34,3 +35,13 @@ loses_more a b c first next most taken lost few = (
   Consumes-trans a b c first lost.0 taken lost.1,
   omega (arith, length-append first lost.0, lost.2),
 )
+
+-- as much behind a list as there is room for is the front of the two
+pub kept_front : (room n : ℕ) (kept bytes : List ℕ) → length kept ≤ room → n ≡ min (length bytes) (room - length kept)
+    → kept ++ take n bytes ≡ take room (kept ++ bytes)
+kept_front room n kept bytes within e =
+    let left : ℕ = room - length kept in
+    let least : n ≡ min left (length bytes) = omega arith in
+    let behind : take n bytes ≡ take left bytes = ap (λ k. take k bytes) least ∙ take_min left bytes in
+    let whole : length kept + left ≡ room = omega arith in
+    ap (λ xs. kept ++ xs) behind ∙ sym (take-append-add kept bytes left) ∙ ap (λ k. take k (kept ++ bytes)) whole

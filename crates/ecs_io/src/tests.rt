@@ -1,8 +1,8 @@
 //! What no clause says: that memory suffices, that a flush comes, and one run of each stream.
 
 use super::{
-    MemSink, MemSource, ReadFailed, ReadRefused, Sink, Source, StdSink, StdSource, WriteFailed,
-    read_all, write_all,
+    MemSink, MemSource, QuietSink, QuietSource, ReadFailed, ReadRefused, Sink, Source, StdSink,
+    StdSource, WriteFailed, read_all, write_all,
 };
 use entity_id::Counts;
 use std::alloc::AllocError;
@@ -76,6 +76,31 @@ fn a_long_text_loses_one_byte_past_the_limit(rt: HostRuntime) -> Result<(), Allo
     let read = read_all(rt.alloc(), &mut source, 5);
     assert_eq!(rt; read, Err(ReadRefused::TooLong));
     assert_eq!(rt; source.left(), 3);
+    Ok(())
+}
+
+#[test]
+fn a_quiet_sink_keeps_what_fits_and_counts_all(rt: HostRuntime) {
+    let mut sink = QuietSink::new(rt.alloc(), 3).expect(&rt, "memory");
+    assert_eq!(rt; sink.write(b"ab"), Ok(2));
+    assert_eq!(rt; sink.bytes(), b"ab".as_slice());
+    assert_eq!(rt; sink.write(b"cde"), Ok(3));
+    assert_eq!(rt; sink.flush(), Ok(()));
+    assert_eq!(rt; sink.bytes(), b"abc".as_slice());
+    assert_eq!(rt; sink.written(), 5);
+    assert_eq!(rt; sink.faults(), 0);
+}
+
+#[test]
+fn a_quiet_source_gives_all_its_bytes(rt: HostRuntime) -> Result<(), AllocError> {
+    let mut source = QuietSource::new(vec![in rt.alloc(); 7u8, 8, 9]?);
+    let mut buf = [0u8; 2];
+    assert_eq!(rt; source.read(&mut buf), Ok(2));
+    assert_eq!(rt; buf, [7, 8]);
+    let rest = read_all(rt.alloc(), &mut source, 9).expect(&rt, "one byte");
+    assert_eq!(rt; rest.as_slice(), [9].as_slice());
+    assert_eq!(rt; source.read(&mut buf), Ok(0));
+    assert_eq!(rt; source.faults(), 0);
     Ok(())
 }
 
