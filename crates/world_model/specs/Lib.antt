@@ -2,4 +2,15 @@ pub mod Integers
 pub mod Names
 pub mod Components
 pub mod Slots
+pub mod Groups
 pub mod Worlds
+pub mod Refusals
+pub mod Contents
+pub mod Conditions
+pub mod Refusing
+pub mod Sorting
+pub mod Outcomes
+pub mod Steps
+pub mod Orders
+pub mod Ticks
+pub mod Tokens

@@ -1,5 +1,5 @@
 -- A lawful world.
-use Rattle.std.specs.Prelude.{◌≡◌, ℕ, ◌≤◌, List, [], length, IsTrue}
+use Rattle.std.specs.Prelude.{ℕ, ◌≤◌, List, [], length, replicate, IsTrue}
 use Rattle.std.specs.List.{AllByRecursion, AllZip}
 use Rattle.entity_id.specs.declared.entity.Entity.{Entity}
 use Rattle.entity_id.specs.declared.entity.Profile.{Profile}
@@ -10,6 +10,7 @@ use Rattle.world_model.specs.declared.component.Row.{Row}
 use Rattle.world_model.specs.declared.slot.Slot.{Slot}
 use Rattle.world_model.specs.declared.world.World.{World}
 use Rattle.world_model.specs.Components.{IsDecl, IsRow, fits}
+use Rattle.world_model.specs.Groups.{AreLawfulGroups}
 use Rattle.world_model.specs.Slots.{is_live, AreLawfulSlots}
 
 -- how many components a world has at most
@@ -24,11 +25,15 @@ pub record AreLawfulRows (profile : Profile) (slots : List Slot) (decl : Decl) (
   pub fitting : AllByRecursion (λ entry. IsTrue (fits profile decl entry.1)) rows
 
 -- a lawful world with at most this many slots: one of the two profiles, lawful components, no more than their limit, lawful slots and free
--- list, lawful rows of each component, and no groups
+-- list, lawful rows of each component, and lawful groups
 pub record IsLawful (limit : ℕ) (world : World) : Type 0 where
   pub profile : IsTrue (is_profile world.profile)
   pub few_decls : length world.decls ≤ component_limit
   pub decls : AllByRecursion IsDecl world.decls
   pub slots : AreLawfulSlots world.profile limit world.slots world.free
   pub pools : AllZip (AreLawfulRows world.profile world.slots) world.decls world.pools
-  pub no_groups : world.groups ≡ []
+  pub groups : AreLawfulGroups (length world.decls) world.groups
+
+-- a world without slots, groups and rows
+abbrev pub empty_world : Profile → List Decl → World
+empty_world profile decls = record { profile = profile; decls = decls; groups = []; tick = 0; slots = []; free = []; pools = replicate (length decls) [] }
