@@ -1,0 +1,19 @@
+//! The slots of a registry: which identifiers are live, and which index and version the next one
+//! gets, as EnTT 3.10 has it.
+//!
+//! An index is given out again once its owner was destroyed, with the next version, so that the old
+//! identifier stays dead; the index that was released last is reused first. [`EntitySlots`] does
+//! this, and `specs/SlotLists.antt` says what a contract sees of it. What one creation makes of the
+//! lists stands in the crate world_model (`specs/Slots.antt`).
+#![tactic(auto)]
+
+mod creation;
+mod entity_slots;
+mod hint;
+mod refused;
+
+pub use entity_slots::EntitySlots;
+pub use refused::{CreateRefused, Dead, Full};
+
+#[cfg(test)]
+mod tests;
