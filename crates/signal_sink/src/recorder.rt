@@ -1,0 +1,68 @@
+//! A listener that keeps the list of what it heard.
+
+ghost use Rattle.std.specs.Prelude.{◌≡◌, []};
+
+use super::Listener;
+use entity_id::OutOfMemory;
+use std::alloc::Global;
+use std::marker::Model;
+use world_model::Event;
+
+/// A listener that keeps the list of what it heard. A contract sees it as a `Hearing`
+/// (`specs/Hearings.antt`). (This project's own.)
+#[derive(Debug, Drop)]
+pub struct Recorder {
+    events: Vec<Event>,
+    // For how many more events the list has room, at least.
+    spare: usize,
+}
+
+impl Model for Recorder {
+    ghost use Rattle.std.specs.Prelude.{◌+◌, ◌≤◌, length, vec_capacity};
+    ghost use Rattle.signal_sink.specs.Hearings.{Hearing};
+
+    ghost Value = { Hearing };
+
+    ghost view = { λ a. record { heard = a.events.items; spare = a.spare } };
+
+    ghost invariant = { λ a. length a.events.items + a.spare ≤ vec_capacity a.events };
+}
+
+impl Recorder {
+    /// It heard nothing yet, and has no room. No memory.
+    pub fn new(alloc: Global) -> Recorder
+        ensures { result ≡ record { heard = []; spare = 0 } }
+    {
+        Recorder {
+            events: Vec::new(alloc),
+            spare: 0,
+        }
+    }
+
+    /// The events that it heard, in order. No memory.
+    pub fn heard(&self) -> &[Event]
+        ensures { result.now ≡ self.now.heard }
+    {
+        &self.events
+    }
+}
+
+impl Listener for Recorder {
+    ghost heard = { λ hearing. hearing.heard };
+
+    ghost spare = { λ hearing. hearing.spare };
+
+    fn reserve(&mut self, n: u64) -> Result<(), OutOfMemory> {
+        let wanted = n as usize;
+        if wanted > self.spare {
+            self.events.reserve(wanted)?;
+            self.spare = wanted;
+        }
+        Ok(())
+    }
+
+    fn notify(&mut self, e: Event) {
+        self.events.push_reserved(e);
+        self.spare -= 1;
+    }
+}
