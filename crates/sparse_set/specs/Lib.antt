@@ -1,0 +1,3 @@
+pub mod PackedSets
+pub mod WalkOrders
+pub mod Places
