@@ -1,0 +1,4 @@
+pub mod Stored
+pub mod Layout
+pub mod Changed
+pub mod Lends
