@@ -14,7 +14,7 @@ use Rattle.world_text.specs.Formats.{version_1, IsFormat}
 use Rattle.world_text.specs.Lines.{IsLine, IsNamedDecl}
 use Rattle.world_text.specs.Meaning.{decl_in, tick_in, slot_in, next_in, pools_in, world_of}
 use Rattle.world_text.specs.Fitting.{last_section, fits, fit_after}
-use Rattle.world_text.specs.Documents.{IsDocumentOf, IsLawfulDocumentOf}
+use Rattle.world_text.specs.Documents.{AreAdmissible, IsDocumentOf, IsFrontOf, IsLawfulDocumentOf}
 use Rattle.world_text.proofs.LawfulSlots.{all_listed}
 use Rattle.world_text.proofs.LawfulPools.{beside_all}
 use Rattle.world_text.proofs.LawfulParts.{nothing_sound}
@@ -57,21 +57,29 @@ whole_is_lawful format lines is_format sound whole = record {
       listed = all_listed (flat_map slot_in lines) (flat_map next_in lines) whole.settled_all sound.listed;
     };
     pools = beside_all (AreLawfulRows format.profile (flat_map slot_in lines)) (pools_in format.profile lines) (flat_map decl_in lines) whole.pools_all sound.pools;
-    no_groups = refl;
+    groups = record { few = omega arith; declared = tt; well_formed = tt; coexist = λ i j d less within. absurd (omega arith) };
   };
   profile = refl;
   tick = first_tick (flat_map tick_in lines) 1000000000000 sound.ticks;
-  named = sound.decls.named;
-  apart = sound.decls.apart;
+  no_groups = refl;
+  named = record { few = sound.decls.few; each = sound.decls.named; apart = sound.decls.apart };
 }
+
+-- what admissible lines up to the end stand for is lawful
+lines_are_lawful : (format : Format) (lines : List Line) (document : Document) → IsFormat format → AreAdmissible format lines → last_section lines ≡ section.End → document.world ≡ world_of format lines → IsLawfulDocumentOf format document
+lines_are_lawful format lines document is_format admissible ended world_is =
+    let start : IsSound format [] = record { parts = nothing_sound format; whole = λ over. absurd (nothing_ended over) } in
+    let sound = lines_after format [] lines is_format admissible.each admissible.fit start in
+    subst (λ world. IsLawfulDocumentOf format (record { world = world })) (sym world_is)
+    (whole_is_lawful format lines is_format sound.parts (sound.whole ended))
 
 -- what the bytes of a document of any format stand for is lawful
 pub document_is_lawful : (format : Format) (bytes : List ℕ) (document : Document) → IsFormat format → IsDocumentOf format bytes document → IsLawfulDocumentOf format document
-document_is_lawful format bytes document is_format is_document =
-    let start : IsSound format [] = record { parts = nothing_sound format; whole = λ ended. absurd (nothing_ended ended) } in
-    let sound = lines_after format [] is_document.lines is_format is_document.admissible.each is_document.admissible.fit start in
-    subst (λ world. IsLawfulDocumentOf format (record { world = world })) (sym is_document.world_is)
-    (whole_is_lawful format is_document.lines is_format sound.parts (sound.whole is_document.ended))
+document_is_lawful format bytes document is_format d = lines_are_lawful format d.lines document is_format d.admissible d.ended d.world_is
+
+-- and so is what a document at the front of a text stands for
+pub front_is_lawful : (format : Format) (bytes : List ℕ) (document : Document) (count : ℕ) (rest : List ℕ) → IsFormat format → IsFrontOf format bytes document count rest → IsLawfulDocumentOf format document
+front_is_lawful format bytes document count rest is_format d = lines_are_lawful format d.lines document is_format d.admissible d.ended d.world_is
 
 -- version 1 is a format
 pub version_1_is_format : IsFormat version_1

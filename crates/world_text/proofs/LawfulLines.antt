@@ -9,6 +9,7 @@ use Rattle.entity_id.specs.declared.entity.Entity.{Entity}
 use Rattle.world_model.specs.declared.component.Decl.{Decl}
 use Rattle.world_model.specs.declared.slot.Slot.{Slot}
 use Rattle.world_model.specs.Slots.{is_live}
+use Rattle.world_model.specs.Components.{has_name}
 use Rattle.world_text.specs.declared.format.Format.{Format}
 use Rattle.world_text.specs.declared.section.Section.{Section}
 use Rattle.world_text.specs.declared.section.Section.TheVariants as section
@@ -19,7 +20,7 @@ use Rattle.world_text.specs.Formats.{IsFormat}
 use Rattle.world_text.specs.Sections.{order, is_between}
 use Rattle.world_text.specs.Lines.{IsLine, IsNamedDecl, IsRowLine}
 use Rattle.world_text.specs.Meaning.{decl_in, tick_in, slot_in, next_in, pools_in}
-use Rattle.world_text.specs.Fitting.{section_of, last_section, has_name, all_settled, goes_on_last, fits, is_unlisted}
+use Rattle.world_text.specs.Fitting.{section_of, last_section, all_settled, goes_on_last, fits, is_unlisted}
 use Rattle.world_text.proofs.MeaningLemmas.{gains, keeps, last_section_push, no_next_yet, no_pool_yet, IsBesidePools, pools_in-row, pools_in-pool, pools_in-other}
 use Rattle.world_text.proofs.SettledLemmas.{settled_same, unlisted_by_flag}
 use Rattle.world_text.proofs.LawfulRows.{profile_limits}

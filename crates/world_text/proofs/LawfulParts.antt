@@ -14,7 +14,7 @@ use Rattle.entity_id.proofs.ListLemmas.{all-append}
 use Rattle.world_model.specs.declared.component.Decl.{Decl}
 use Rattle.world_model.specs.declared.component.Row.{Row}
 use Rattle.world_model.specs.declared.slot.Slot.{Slot}
-use Rattle.world_model.specs.Components.{kinds_of}
+use Rattle.world_model.specs.Components.{kinds_of, has_name}
 use Rattle.world_model.specs.Slots.{is_live}
 use Rattle.world_model.specs.Worlds.{AreLawfulRows}
 use Rattle.world_text.specs.declared.format.Format.{Format}
@@ -22,7 +22,7 @@ use Rattle.world_text.specs.FieldValues.{FieldValue}
 use Rattle.world_text.specs.LineKinds.{Line}
 use Rattle.world_text.specs.Lines.{IsNamedDecl, IsRowLine}
 use Rattle.world_text.specs.Meaning.{decl_in, tick_in, slot_in, next_in, row_of, pools_in, settled_from}
-use Rattle.world_text.specs.Fitting.{has_name, is_above, are_of_kinds, goes_on_last}
+use Rattle.world_text.specs.Fitting.{is_above, are_of_kinds, goes_on_last}
 use Rattle.world_text.specs.Documents.{are_named_apart}
 use Rattle.world_text.proofs.LawfulRows.{row_fits, row_is_row}
 use Rattle.world_text.proofs.LawfulSlots.{IsListed, listed_push}

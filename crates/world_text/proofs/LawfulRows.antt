@@ -44,7 +44,7 @@ below_parts profile entity h =
     (ltb-true _ _ parts.0, ltb-true _ _ parts.1)
 
 -- the field of an identifier of the profile holds that identifier
-field_holds : (profile : Profile) (entity : Entity) → HasLimits profile → IsOfProfile profile entity → entity_in profile (field_of profile entity) ≡ entity
+pub field_holds : (profile : Profile) (entity : Entity) → HasLimits profile → IsOfProfile profile entity → entity_in profile (field_of profile entity) ≡ entity
 field_holds profile entity limits within = grind (arith, common_steps)
 
 cast_case : (n : ℕ) (t : Bool) → t ≡ ltb n (2 ^ 63) → n < 2 ^ 64 → IsI64 (cond t (pos n) (negsuc (2 ^ 64 - suc n)))
@@ -74,7 +74,7 @@ below_within profile entity below =
     let parts = below_parts profile entity below in
     record { index = omega (arith, parts.0); version = omega (arith, parts.1) }
 
-value_within : (profile : Profile) (entity : Entity) → IsValue profile (value.Ref entity) → IsOfProfile profile entity
+pub value_within : (profile : Profile) (entity : Entity) → IsValue profile (value.Ref entity) → IsOfProfile profile entity
 value_within profile entity of_value =
     elim (or_cases (is_same entity (null profile)) (is_below profile entity) of_value) [
       | inl same ↦ null_within profile entity same

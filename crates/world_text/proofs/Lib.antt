@@ -1,4 +1,6 @@
 pub mod AddingLemmas
+pub mod CommandLineLemmas
+pub mod EmplaceLemmas
 pub mod FormatLemmas
 pub mod LawfulLemmas
 pub mod LawfulLines
@@ -8,6 +10,9 @@ pub mod LawfulRows
 pub mod LawfulSlots
 pub mod LineLemmas
 pub mod MeaningLemmas
+pub mod NameLemmas
+pub mod OneLineLemmas
+pub mod OneScriptLemmas
 pub mod PartLemmas
 pub mod PrintedFits
 pub mod PrintedLemmas
@@ -19,6 +24,7 @@ pub mod PrintingLemmas
 pub mod ReadingLemmas
 pub mod RowLemmas
 pub mod RowLineLemmas
+pub mod ScriptLemmas
 pub mod SettledLemmas
 pub mod Tags
 pub mod TakingLemmas

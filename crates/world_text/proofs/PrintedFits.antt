@@ -9,6 +9,7 @@ use Rattle.std.proofs.lemmas.Bool.{and_parts, and_from, or_parts, or_from, le-le
 use Rattle.world_model.specs.declared.component.Decl.{Decl}
 use Rattle.world_model.specs.declared.slot.Slot.{Slot}
 use Rattle.world_model.specs.Slots.{is_free_at}
+use Rattle.world_model.specs.Components.{has_name}
 use Rattle.world_text.specs.declared.format.Format.{Format}
 use Rattle.world_text.specs.declared.section.Section.{Section}
 use Rattle.world_text.specs.declared.section.Section.TheVariants as section
@@ -16,7 +17,7 @@ use Rattle.world_text.specs.LineKinds.{Line}
 use Rattle.world_text.specs.LineKinds as line
 use Rattle.world_text.specs.Sections.{order, is_between}
 use Rattle.world_text.specs.Meaning.{decl_in, slot_in, settled_from, settled}
-use Rattle.world_text.specs.Fitting.{last_section, has_name, fits, fit_after}
+use Rattle.world_text.specs.Fitting.{last_section, fits, fit_after}
 use Rattle.world_text.specs.Documents.{are_named_apart}
 use Rattle.world_text.proofs.MeaningLemmas.{flat_map_push, last_section_push}
 use Rattle.world_text.proofs.SettledLemmas.{settled_next, unlisted_by_flag}

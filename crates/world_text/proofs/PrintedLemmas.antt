@@ -159,8 +159,8 @@ lines_fit format w h =
 printable : (format : Format) (document : Document) → IsLawfulDocumentOf format document → IsPrintable format document.world
 printable format document lawful = record {
   few_decls = lawful.world.few_decls;
-  named = lawful.named;
-  apart = lawful.apart;
+  named = lawful.named.each;
+  apart = lawful.named.apart;
   tick = lawful.tick;
   slots = subst (λ p. AreLawfulSlots p format.slot_limit document.world.slots document.world.free) lawful.profile lawful.world.slots;
   pools = subst (λ p. AllZip (AreLawfulRows p document.world.slots) document.world.decls document.world.pools) lawful.profile lawful.world.pools;
@@ -179,7 +179,7 @@ printed_is_document_of format document lawful =
       };
       ended = ends_printed w.profile w;
       spelled = refl;
-      world_is = world_printed format w lawful.world lawful.profile;
+      world_is = world_printed format w lawful.world lawful.profile lawful.no_groups;
     }
 
 -- what is printed is read again

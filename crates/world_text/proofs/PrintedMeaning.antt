@@ -109,13 +109,13 @@ all_pools limit w lawful =
     ∙ pools_printed w.profile w.slots w.decls w.pools (line.End ∷ []) lawful.decls lawful.pools refl refl
 
 -- the lines of a lawful world stand for it
-pub world_printed : (format : Format) (w : World) → IsLawful format.slot_limit w → w.profile ≡ format.profile → w ≡ world_of format (lines_of w)
-world_printed format w lawful same =
+pub world_printed : (format : Format) (w : World) → IsLawful format.slot_limit w → w.profile ≡ format.profile → w.groups ≡ [] → w ≡ world_of format (lines_of w)
+world_printed format w lawful same no_groups =
     let pools : w.pools ≡ pools_in format.profile (lines_of w) = sym (all_pools format.slot_limit w lawful) ∙ ap (λ (p : Profile). pools_in p (lines_of w)) same in
     λ i. record {
       profile = same i;
       decls = sym (decls_printed w) i;
-      groups = lawful.no_groups i;
+      groups = no_groups i;
       tick = sym (tick_printed w) i;
       slots = sym (slots_printed w) i;
       free = sym (nexts_printed w) i;

@@ -14,7 +14,7 @@ use Rattle.entity_id.proofs.ListLemmas.{all_weaker}
 use Rattle.world_model.specs.declared.component.Decl.{Decl}
 use Rattle.world_model.specs.declared.component.Row.{Row}
 use Rattle.world_model.specs.declared.slot.Slot.{Slot}
-use Rattle.world_model.specs.Components.{IsDecl, IsRow, kinds_of}
+use Rattle.world_model.specs.Components.{IsDecl, IsRow, kinds_of, has_name}
 use Rattle.world_model.specs.Slots.{is_live}
 use Rattle.world_model.specs.Worlds.{AreLawfulRows}
 use Rattle.world_text.specs.declared.format.Format.{Format}
@@ -24,7 +24,7 @@ use Rattle.world_text.specs.LineKinds.{Line}
 use Rattle.world_text.specs.LineKinds as line
 use Rattle.world_text.specs.Sections.{order}
 use Rattle.world_text.specs.Meaning.{decl_in, slot_in, next_in, row_of, pools_in, settled_from, settled}
-use Rattle.world_text.specs.Fitting.{last_section, has_name, all_settled, are_of_kinds, is_above, goes_on_last, fit_after}
+use Rattle.world_text.specs.Fitting.{last_section, all_settled, are_of_kinds, is_above, goes_on_last, fit_after}
 use Rattle.world_text.specs.Documents.{values_in, row_line, pool_lines}
 use Rattle.world_text.proofs.MeaningLemmas.{order_later, order_last_section-append, last_section_push, keeps, pools_in-row, pools_in-pool}
 use Rattle.world_text.proofs.PrintedValues.{row_of_kinds}

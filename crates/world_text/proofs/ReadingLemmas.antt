@@ -2,17 +2,19 @@
 use Rattle.std.proofs.Common.{◌≡◌, ◌≢◌, ℕ, ◌+◌, true, false, List, [], ◌∷◌, ◌++◌, length, refl, sym, ap, subst, ◌∙◌, arith, append_assoc, length-append}
 use Rattle.std.specs.List.{AllByRecursion}
 use Rattle.std.proofs.lemmas.List.{append-nil}
-use Rattle.std.proofs.lemmas.Bool.{and_parts}
+use Rattle.std.proofs.lemmas.Bool.{and_parts, and_left}
 use Rattle.std.proofs.lemmas.Grind.{flat_map-append}
 use Rattle.world_text.specs.declared.format.Format.{Format}
 use Rattle.world_text.specs.declared.section.Section.TheVariants as section
 use Rattle.world_text.specs.declared.document.Document.{Document}
 use Rattle.world_text.specs.declared.draft.Draft.{Draft}
 use Rattle.world_text.specs.LineKinds.{Line}
+use Rattle.world_text.specs.LineKinds as line
 use Rattle.world_text.specs.Lines.{IsLine, line_text, text_of}
+use Rattle.world_text.specs.Sections.{is_between}
 use Rattle.world_text.specs.Meaning.{pools_in}
-use Rattle.world_text.specs.Fitting.{fits, fit_after}
-use Rattle.world_text.specs.Documents.{AreAdmissible, IsDocumentOf, IsBadLineOf}
+use Rattle.world_text.specs.Fitting.{fits, fit_after, last_section}
+use Rattle.world_text.specs.Documents.{AreAdmissible, IsDocumentOf, IsBadLineOf, IsFrontOf, IsBadFrontOf}
 use Rattle.world_text.specs.Drafts.{Stands, TakesLine, RefusesLine, world_in}
 use Rattle.world_text.proofs.AddingLemmas.{and_true}
 
@@ -60,9 +62,8 @@ read_more format bytes old new count rest after h t =
       stands = t.taken.stands h.lines h.stands;
     }
 
--- the next line is the first bad one where no line that fits begins the rest, and the rest is no end
-pub bad_next : (format : Format) (bytes : List ℕ) (draft : Draft) (count : ℕ) (rest : List ℕ) → HasRead format bytes draft count rest → RefusesLine draft rest → (rest ≡ [] → draft.section ≢ section.End) → IsBadLineOf format bytes (count + 1)
-bad_next format bytes draft count rest h none unfinished = record {
+bad_here : (format : Format) (bytes : List ℕ) (draft : Draft) (count : ℕ) (rest : List ℕ) → HasRead format bytes draft count rest → RefusesLine draft rest → draft.section ≢ section.End → IsBadLineOf format bytes (count + 1)
+bad_here format bytes draft count rest h none unfinished = record {
   lines = h.lines;
   rest = rest;
   counted = omega (arith, h.counted);
@@ -72,16 +73,25 @@ bad_next format bytes draft count rest h none unfinished = record {
       let in_draft : IsLine draft.format l = subst (λ f. IsLine f l) (sym h.same_format) is in
       let spelled : rest ≡ line_text draft.format l ++ 10 ∷ more = subst (λ f. rest ≡ line_text f l ++ 10 ∷ more) (sym h.same_format) e in
       subst (λ f. fits f h.lines l ≡ false) h.same_format (none l more in_draft spelled h.lines h.stands);
-  no_end = λ empty ended. unfinished empty (h.stands.section ∙ ended);
+  no_end = λ empty ended. unfinished (h.stands.section ∙ ended);
 }
 
--- what a draft stands for whose lines are all read, up to the end
-pub document_read : (format : Format) (bytes : List ℕ) (draft : Draft) (count : ℕ) (rest : List ℕ) (document : Document) → HasRead format bytes draft count rest → rest ≡ [] → draft.section ≡ section.End → document.world ≡ world_in draft → IsDocumentOf format bytes document
-document_read format bytes draft count rest document h empty ended world = record {
+-- the next line is the first bad one where no line that fits begins the rest, and the document hasn't ended
+pub bad_next : (format : Format) (bytes : List ℕ) (draft : Draft) (count : ℕ) (rest : List ℕ) → HasRead format bytes draft count rest → RefusesLine draft rest → draft.section ≢ section.End → IsBadFrontOf format bytes (count + 1)
+unfolding bad_here
+bad_next format bytes draft count rest h none unfinished = record {
+  bad = bad_here format bytes draft count rest h none unfinished;
+  unfinished = λ ended. unfinished (h.stands.section ∙ ended);
+}
+
+-- a draft whose lines are read up to the end stands for the document at the front
+pub front_read : (format : Format) (bytes : List ℕ) (draft : Draft) (count : ℕ) (rest : List ℕ) (document : Document) → HasRead format bytes draft count rest → draft.section ≡ section.End → document.world ≡ world_in draft → IsFrontOf format bytes document count rest
+front_read format bytes draft count rest document h ended world = record {
   lines = h.lines;
   admissible = h.admissible;
   ended = sym h.stands.section ∙ ended;
-  spelled = h.spelled ∙ ap (λ (x : List ℕ). text_of format h.lines ++ x) empty ∙ append-nil (text_of format h.lines);
+  counted = h.counted;
+  spelled = h.spelled;
   world_is = world ∙ (λ i. record {
     profile = (h.same_format i).profile;
     decls = h.stands.decls i;
@@ -91,4 +101,37 @@ document_read format bytes draft count rest document h empty ended world = recor
     free = h.stands.free i;
     pools = (h.stands.pools ∙ ap (λ f. pools_in f.profile h.lines) h.same_format) i;
   });
+}
+
+-- a document at the front with nothing behind it is the whole text
+pub whole_front : (format : Format) (bytes : List ℕ) (document : Document) (count : ℕ) → IsFrontOf format bytes document count [] → IsDocumentOf format bytes document
+whole_front format bytes document count h = record {
+  lines = h.lines;
+  admissible = h.admissible;
+  ended = h.ended;
+  spelled = h.spelled ∙ append-nil (text_of format h.lines);
+  world_is = h.world_is;
+}
+
+-- no line is admissible behind the end
+fits_nowhere : (format : Format) (before : List Line) (l : Line) → last_section before ≡ section.End → fits format before l ≡ false
+fits_nowhere format before line.Version ended = ap (is_between section.Start section.Start) ended
+fits_nowhere format before (line.Component decl) ended = and_left _ _ (ap (is_between section.Version section.Components) ended)
+fits_nowhere format before (line.Tick tick) ended = ap (is_between section.Version section.Components) ended
+fits_nowhere format before (line.Slot slot) ended = and_left _ _ (ap (is_between section.Tick section.Slots) ended)
+fits_nowhere format before (line.Next index) ended = and_left _ _ (ap (is_between section.Tick section.FreeList) ended)
+fits_nowhere format before (line.Pool name) ended = and_left _ _ (ap (is_between section.Tick section.Pools) ended)
+fits_nowhere format before (line.Row entity values) ended = and_left _ _ (ap (is_between section.Pools section.Pools) ended)
+fits_nowhere format before line.End ended = and_left _ _ (ap (is_between section.Tick section.Pools) ended)
+
+-- what stands behind a document makes the next line the first bad one
+pub bad_behind : (format : Format) (bytes : List ℕ) (document : Document) (count : ℕ) (rest : List ℕ) → IsFrontOf format bytes document count rest → rest ≢ [] → IsBadLineOf format bytes (count + 1)
+bad_behind format bytes document count rest h more = record {
+  lines = h.lines;
+  rest = rest;
+  counted = omega (arith, h.counted);
+  admissible = h.admissible;
+  spelled = h.spelled;
+  no_line = λ l after is e. fits_nowhere format h.lines l h.ended;
+  no_end = λ empty. absurd (more empty);
 }

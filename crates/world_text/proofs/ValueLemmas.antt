@@ -3,17 +3,16 @@ use Rattle.std.proofs.Common.{◌≡◌, ◌≢◌, ℕ, ℤ, pos, negsuc, suc, 
 use Rattle.std.specs.Fmt.{signed_decimal}
 use Rattle.std.specs.List.{AllByRecursion}
 use Rattle.std.proofs.lemmas.List.{append-nil}
-use Rattle.std.proofs.lemmas.Bool.{and_parts, or_cases, eqb-true, ltb-true}
 use Rattle.entity_id.specs.declared.entity.Profile.{Profile}
 use Rattle.entity_id.specs.declared.entity.Entity.{Entity}
-use Rattle.entity_id.specs.Identifiers.{HasLimits, IsOfProfile, null, is_same}
+use Rattle.entity_id.specs.Identifiers.{HasLimits, IsOfProfile}
 use Rattle.entity_id.specs.Texts.{entity_text}
 use Rattle.entity_id.specs.Cuts.{Lacks}
 use Rattle.entity_id.proofs.CutLemmas.{lacks_append}
 use Rattle.entity_id.proofs.TextLemmas.{decimal_lacks, entity_text_lacks, entity_text_injective, needs_colon}
-use Rattle.world_model.specs.Components.{is_below}
 use Rattle.world_model.specs.Integers.{IsI64}
 use Rattle.world_model.proofs.IntegerLemmas.{signed_decimal_injective}
+use Rattle.world_model.proofs.TokenLemmas.{target_of_profile}
 use Rattle.world_text.specs.FieldValues.{FieldValue}
 use Rattle.world_text.specs.FieldValues.{Int, Ref}
 use Rattle.world_text.specs.Lines.{IsValue, value_text, values_text}
@@ -24,19 +23,7 @@ use Rattle.world_text.proofs.WordLemmas.{same_split}
 
 -- an identifier that a field may hold is of the profile
 pub value_of_profile : (profile : Profile) (entity : Entity) → IsValue profile (Ref entity) → IsOfProfile profile entity
-value_of_profile profile entity is =
-    elim (or_cases (is_same entity (null profile)) (is_below profile entity) is) [
-      | inl same ↦
-          let parts = and_parts _ _ same in
-          let index = eqb-true entity.index profile.index_limit parts.0 in
-          let version = eqb-true entity.version profile.version_limit parts.1 in
-          record { index = omega arith; version = omega arith }
-      | inr below ↦
-          let parts = and_parts _ _ below in
-          let index = ltb-true entity.index profile.index_limit parts.0 in
-          let version = ltb-true entity.version profile.version_limit parts.1 in
-          record { index = omega arith; version = omega arith }
-    ]
+value_of_profile profile entity is = target_of_profile profile entity is
 
 -- a whole number's text has no byte but digits and the minus sign (45)
 signed_lacks : (byte : ℕ) (z : ℤ) → IsI64 z → 45 ≢ byte → (byte < 48) ⊎ (57 < byte) → Lacks byte (signed_decimal z)

@@ -9,8 +9,8 @@ use Rattle.world_model.specs.declared.component.Kind.{Kind}
 use Rattle.world_model.specs.declared.component.Kind.TheVariants as kind
 use Rattle.world_model.specs.declared.component.Row.{Row}
 use Rattle.world_model.specs.declared.world.World.{World}
-use Rattle.world_model.specs.Components.{kinds_of}
-use Rattle.world_model.specs.Worlds.{IsLawful}
+use Rattle.world_model.specs.Components.{kinds_of, has_name}
+use Rattle.world_model.specs.Worlds.{component_limit, IsLawful}
 use Rattle.world_text.specs.declared.format.Format.{Format}
 use Rattle.world_text.specs.declared.section.Section.TheVariants as section
 use Rattle.world_text.specs.declared.document.Document.{Document}
@@ -21,7 +21,7 @@ use Rattle.world_text.specs.LineKinds as line
 use Rattle.world_text.specs.Formats.{tick_limit, version_1}
 use Rattle.world_text.specs.Lines.{IsLine, IsNamedDecl, line_text, text_of}
 use Rattle.world_text.specs.Meaning.{world_of}
-use Rattle.world_text.specs.Fitting.{last_section, has_name, fits, fit_after}
+use Rattle.world_text.specs.Fitting.{last_section, fits, fit_after}
 
 -- admissible lines: each is a line of the format, and each is admissible after those before it
 pub record AreAdmissible (format : Format) (lines : List Line) : Type 0 where
@@ -48,6 +48,21 @@ pub record IsBadLineOf (format : Format) (bytes : List ℕ) (number : ℕ) : Typ
   pub no_line : (l : Line) (more : List ℕ) → IsLine format l → rest ≡ line_text format l ++ 10 ∷ more → fits format lines l ≡ false
   pub no_end : rest ≡ [] → last_section lines ≢ section.End
 
+-- a text begins with a document, which has so many lines; the rest is what stands behind its end
+pub record IsFrontOf (format : Format) (bytes : List ℕ) (document : Document) (count : ℕ) (rest : List ℕ) : Type 0 where
+  pub lines : List Line
+  pub admissible : AreAdmissible format lines
+  pub ended : last_section lines ≡ section.End
+  pub counted : count ≡ length lines
+  pub spelled : bytes ≡ text_of format lines ++ rest
+  pub world_is : document.world ≡ world_of format lines
+
+-- the line of this number is the first that is not admissible in the document at the front of a text, or that is missing there:
+-- the lines before it have not reached the document's end
+pub record IsBadFrontOf (format : Format) (bytes : List ℕ) (number : ℕ) : Type 0 where
+  pub bad : IsBadLineOf format bytes number
+  pub unfinished : last_section bad.lines ≢ section.End
+
 -- a document, whose format is version 1
 abbrev pub IsDocument : List ℕ → Document → Type 0
 IsDocument bytes document = IsDocumentOf version_1 bytes document
@@ -56,19 +71,33 @@ IsDocument bytes document = IsDocumentOf version_1 bytes document
 abbrev pub IsBadLine : List ℕ → ℕ → Type 0
 IsBadLine bytes number = IsBadLineOf version_1 bytes number
 
+-- a document at the front of a text, up to the rest
+abbrev pub IsFront : List ℕ → Document → ℕ → List ℕ → Type 0
+IsFront bytes document count rest = IsFrontOf version_1 bytes document count rest
+
+-- the first bad line of what has no document at its front
+abbrev pub IsBadFront : List ℕ → ℕ → Type 0
+IsBadFront bytes number = IsBadFrontOf version_1 bytes number
+
 -- no two components have one name
 abbrev pub are_named_apart : List Decl → Bool
 are_named_apart [] = true
 are_named_apart (decl ∷ decls) = not (list_any (λ other. has_name other.name decl) decls) && are_named_apart decls
 
--- a lawful document of this format: a lawful world of its profile, with a tick number within the limit, whose components have
--- names of the form of names, no two the same
+-- components that their names tell apart: no more than the limit, each with a name of the form of names, no two with the same
+pub record AreNamedDecls (decls : List Decl) : Type 0 where
+  pub few : length decls ≤ component_limit
+  pub each : AllByRecursion IsNamedDecl decls
+  pub apart : are_named_apart decls ≡ true
+
+-- a lawful document of this format: a lawful world of its profile without groups, with a tick number within the limit, whose
+-- components have names of the form of names, no two the same
 pub record IsLawfulDocumentOf (format : Format) (document : Document) : Type 0 where
   pub world : IsLawful format.slot_limit document.world
   pub profile : document.world.profile ≡ format.profile
   pub tick : document.world.tick ≤ tick_limit
-  pub named : AllByRecursion IsNamedDecl document.world.decls
-  pub apart : are_named_apart document.world.decls ≡ true
+  pub no_groups : document.world.groups ≡ []
+  pub named : AreNamedDecls document.world.decls
 
 -- a lawful document
 abbrev pub IsLawfulDocument : Document → Type 0

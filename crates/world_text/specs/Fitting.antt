@@ -2,14 +2,13 @@
 use Rattle.std.specs.Prelude.{ℕ, ◌-◌, Bool, true, false, ◌&&◌, not, List, [], ◌∷◌, ◌++◌, length, slice_get, nat_lt, ◌==◌}
 use Rattle.std.specs.List.{flat_map, list_any, list_all, zip}
 use Rattle.std.specs.Option.{option_map_or}
-use Rattle.std.specs.Str.{bytes_eq}
 use Rattle.entity_id.specs.declared.entity.Entity.{Entity}
 use Rattle.world_model.specs.declared.component.Decl.{Decl}
 use Rattle.world_model.specs.declared.component.Kind.{Kind}
 use Rattle.world_model.specs.declared.component.Kind.TheVariants as kind
 use Rattle.world_model.specs.declared.component.Row.{Row}
 use Rattle.world_model.specs.declared.slot.Slot.{Slot}
-use Rattle.world_model.specs.Components.{kinds_of}
+use Rattle.world_model.specs.Components.{kinds_of, has_name}
 use Rattle.world_model.specs.Slots.{is_live, is_free_at}
 use Rattle.world_model.specs.Worlds.{component_limit}
 use Rattle.world_text.specs.declared.format.Format.{Format}
@@ -37,10 +36,6 @@ section_of line.End = section.End
 abbrev pub last_section : List Line → Section
 last_section [] = section.Start
 last_section (l ∷ lines) = later (section_of l) (last_section lines)
-
--- whether a component has this name
-abbrev pub has_name : List ℕ → Decl → Bool
-has_name name decl = bytes_eq decl.name name
 
 -- whether an index is to go on the free list: its slot is there and free, and it isn't on the list
 abbrev pub is_unlisted : List Slot → List ℕ → ℕ → Bool

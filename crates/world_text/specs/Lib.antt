@@ -6,6 +6,9 @@ pub mod Lines
 pub mod Meaning
 pub mod Fitting
 pub mod Documents
-pub mod Refusals
 pub mod Reading
 pub mod Drafts
+pub mod Replies
+pub mod Scripts
+pub mod Refusals
+pub mod ScriptReading

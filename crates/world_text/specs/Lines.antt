@@ -1,15 +1,15 @@
 -- The lines of a document, and how each is spelled.
-use Rattle.std.specs.Prelude.{◌≡◌, ℕ, ◌<◌, ◌≤◌, true, ◌||◌, List, [], ◌∷◌, ◌++◌, length, codes, IsTrue, if◌then◌else◌}
+use Rattle.std.specs.Prelude.{◌≡◌, ℕ, ◌<◌, ◌≤◌, true, List, [], ◌∷◌, ◌++◌, length, codes, IsTrue, if◌then◌else◌}
 use Rattle.std.specs.List.{flat_map, AllByRecursion}
 use Rattle.std.specs.Fmt.{decimal, signed_decimal}
 use Rattle.entity_id.specs.declared.entity.Profile.{Profile}
 use Rattle.entity_id.specs.declared.entity.Entity.{Entity}
-use Rattle.entity_id.specs.Identifiers.{IsOfProfile, null, is_same}
+use Rattle.entity_id.specs.Identifiers.{IsOfProfile}
 use Rattle.entity_id.specs.Texts.{entity_text}
 use Rattle.world_model.specs.declared.component.Decl.{Decl}
 use Rattle.world_model.specs.declared.component.Kind.{Kind}
 use Rattle.world_model.specs.declared.component.Kind.TheVariants as kind
-use Rattle.world_model.specs.Components.{IsDecl, kinds_of, is_below}
+use Rattle.world_model.specs.Components.{IsDecl, kinds_of, is_target}
 use Rattle.world_model.specs.Integers.{IsI64}
 use Rattle.world_model.specs.Names.{is_name}
 use Rattle.world_text.specs.declared.format.Format.{Format}
@@ -66,7 +66,7 @@ pub record IsNamedDecl (decl : Decl) : Type 0 where
 -- a number of 64 bits, or null, or an identifier both of whose parts are below the limits
 abbrev pub IsValue : Profile → FieldValue → Type 0
 IsValue profile (value.Int number) = IsI64 number
-IsValue profile (value.Ref entity) = IsTrue (is_same entity (null profile) || is_below profile entity)
+IsValue profile (value.Ref entity) = IsTrue (is_target profile entity)
 
 -- the row of an identifier of the profile, with at most 4 values
 pub record IsRowLine (format : Format) (entity : Entity) (values : List FieldValue) : Type 0 where

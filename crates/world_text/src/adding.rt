@@ -2,7 +2,7 @@
 
 ghost use Rattle.std.specs.Prelude.{◌≡◌, true, slice_index_or, OnOk, IsErrOf};
 ghost use Rattle.std.specs.List.{list_any};
-ghost use Rattle.world_text.specs.Fitting.{has_name};
+ghost use Rattle.world_model.specs.Components.{has_name};
 ghost use Rattle.world_text.specs.Drafts.{Takes, Refuses};
 ghost use Rattle.world_text.specs.LineKinds.{Line};
 

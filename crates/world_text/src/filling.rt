@@ -2,7 +2,8 @@
 
 ghost use Rattle.std.specs.Prelude.{◌≡◌, true, false, slice_get, ◌++◌, ◌∷◌, ◌-◌, ◌<◌, ◌≤◌, [], length, slice_index_or, slice_set, OnOk, OnErr, IsErrOf};
 ghost use Rattle.std.specs.Option.{option_map_or};
-ghost use Rattle.world_text.specs.Fitting.{has_name, is_above as above};
+ghost use Rattle.world_model.specs.Components.{has_name};
+ghost use Rattle.world_text.specs.Fitting.{is_above as above};
 ghost use Rattle.world_text.specs.Drafts.{Takes, Refuses, TakesRow, RefusesRow};
 ghost use Rattle.world_text.specs.LineKinds.{Line};
 

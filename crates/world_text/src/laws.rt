@@ -1,8 +1,12 @@
 //! What holds of every document, whoever reads or prints it.
 
 ghost use Rattle.std.specs.Prelude.{◌≡◌, ℕ, List};
+ghost use Rattle.std.specs.List.{AllByRecursion};
 ghost use Rattle.world_text.specs.declared.document.Document.{Document};
-ghost use Rattle.world_text.specs.Documents.{IsDocument, IsBadLine, IsLawfulDocument, text};
+ghost use Rattle.world_text.specs.declared.script.ScriptLine.{ScriptLine};
+ghost use Rattle.world_text.specs.Documents.{IsDocument, IsBadLine, IsFront, IsBadFront, IsLawfulDocument, text};
+ghost use Rattle.world_text.specs.Formats.{version_1};
+ghost use Rattle.world_text.specs.Scripts.{IsScriptLine, IsScripted, IsBadScriptedLine, document_after};
 
 /// A text stands for one document at most. No memory.
 pub fn one_document()
@@ -16,6 +20,33 @@ pub fn one_bad_line()
     ensures one { (bytes : List ℕ) (a b : ℕ) → IsBadLine bytes a → IsBadLine bytes b → a ≡ b }
 {}
 
+/// A text begins with one document at most, up to one rest. No text that begins with a document has a bad
+/// line there, and none has two first bad lines there. No memory.
+pub fn one_front()
+    ensures document { (bytes : List ℕ) (a b : Document) (m n : ℕ) (x y : List ℕ) →
+        IsFront bytes a m x → IsFront bytes b n y → a ≡ b }
+    ensures count { (bytes : List ℕ) (a b : Document) (m n : ℕ) (x y : List ℕ) →
+        IsFront bytes a m x → IsFront bytes b n y → m ≡ n }
+    ensures rest { (bytes : List ℕ) (a b : Document) (m n : ℕ) (x y : List ℕ) →
+        IsFront bytes a m x → IsFront bytes b n y → x ≡ y }
+    ensures none { (bytes : List ℕ) (a : Document) (m number : ℕ) (x : List ℕ) →
+        IsFront bytes a m x → IsBadFront bytes number → ⊥ }
+    ensures one { (bytes : List ℕ) (a b : ℕ) → IsBadFront bytes a → IsBadFront bytes b → a ≡ b }
+{}
+
+/// A text is one document with one script at most. No such text has a bad line, and no text has two first
+/// bad lines, counted over document and script together. No memory.
+pub fn one_script()
+    ensures document { (bytes : List ℕ) (a b : Document) (m n : List ScriptLine) →
+        IsScripted bytes a m → IsScripted bytes b n → a ≡ b }
+    ensures script { (bytes : List ℕ) (a b : Document) (m n : List ScriptLine) →
+        IsScripted bytes a m → IsScripted bytes b n → m ≡ n }
+    ensures none { (bytes : List ℕ) (a : Document) (m : List ScriptLine) (number : ℕ) →
+        IsScripted bytes a m → IsBadScriptedLine bytes number → ⊥ }
+    ensures one { (bytes : List ℕ) (a b : ℕ) →
+        IsBadScriptedLine bytes a → IsBadScriptedLine bytes b → a ≡ b }
+{}
+
 /// The canonical text of a lawful document is a document that stands for the same. No memory.
 pub fn printed_text()
     ensures { (document : Document) →
@@ -26,4 +57,12 @@ pub fn printed_text()
 pub fn documents_are_lawful()
     ensures { (bytes : List ℕ) (document : Document) →
         IsDocument bytes document → IsLawfulDocument document }
+{}
+
+/// The world that a script leaves of a lawful document makes one again. No memory.
+pub fn scripts_keep_documents_lawful()
+    ensures { (document : Document) (script : List ScriptLine) →
+        IsLawfulDocument document →
+        AllByRecursion (IsScriptLine version_1.profile document.world.decls) script →
+        IsLawfulDocument (document_after document script) }
 {}

@@ -7,6 +7,7 @@
 #![tactic(auto)]
 
 mod adding;
+mod command_lines;
 mod document;
 mod draft;
 mod fault;
@@ -17,13 +18,22 @@ mod name_lines;
 mod number_lines;
 mod printing;
 mod reading;
+mod replies;
 mod row_lines;
+mod script;
 mod section;
 mod words;
 
+pub use command_lines::{after_first_line, after_last_line, take_script_line};
 pub use document::Document;
 use fault::LineFault;
 pub use fault::TextRefused;
-pub use laws::{documents_are_lawful, one_bad_line, one_document, printed_text};
-pub use printing::write_world;
-pub use reading::read_world;
+pub use format::{Format, VERSION_1};
+pub use laws::{
+    documents_are_lawful, one_bad_line, one_document, one_front, one_script, printed_text,
+    scripts_keep_documents_lawful,
+};
+pub use printing::{push_world, write_world};
+pub use reading::{Front, read_front, read_world};
+pub use replies::push_reply;
+pub use script::ScriptLine;

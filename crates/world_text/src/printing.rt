@@ -1,9 +1,9 @@
-ghost use Rattle.std.specs.Prelude.{◌≡◌, ◌+◌, ◌*◌, ◌≤◌, ◌++◌, ◌∷◌, [], length, drop, map, OnOk, IfOk};
+ghost use Rattle.std.specs.Prelude.{◌≡◌, ◌+◌, ◌*◌, ◌≤◌, ◌++◌, ◌∷◌, [], length, drop, map, OnOk, OnErr, IfOk};
 ghost use Rattle.std.specs.Fmt.{decimal, signed_decimal};
 ghost use Rattle.std.specs.List.{flat_map, zip};
 ghost use Rattle.world_text.specs.Formats.{version_1};
 ghost use Rattle.world_text.specs.Lines.{line_text, kind_text, value_text, values_text, text_of};
-ghost use Rattle.world_text.specs.Documents.{IsLawfulDocument, text, value_in, row_line, pool_lines};
+ghost use Rattle.world_text.specs.Documents.{IsLawfulDocument, text, value_in, values_in, row_line, pool_lines};
 ghost use Rattle.world_text.specs.LineKinds.{Line};
 
 use super::Document;
@@ -15,7 +15,7 @@ use world_model::{Decl, Kind, Row, Rows, Slot};
 
 // Room for a line, which is written from its end to its front. The longest is that of a row, 114
 // bytes: `row `, an identifier of 21, four values of at most 21, each behind a space, and the end.
-const ROOM: usize = 128;
+pub(super) const ROOM: usize = 128;
 
 /// The canonical text of a lawful document: its lines in their one order, rows in ascending index.
 /// The text is a document that stands for the same. Refused where memory for the text runs out.
@@ -23,23 +23,34 @@ pub fn write_world(alloc: Global, document: &Document) -> Result<Vec<u8>, OutOfM
     requires { IsLawfulDocument document.now }
     ensures { IfOk result (λ out. out.items ≡ text document.now) }
 {
-    let world = &document.world;
     let mut out = Vec::new(alloc);
-    push_number(&mut out, b"world ", VERSION_1.version)?;
-    push_decls(&mut out, world.decls.as_slice())?;
-    push_number(&mut out, b"tick ", world.tick)?;
-    push_slots(&mut out, world.slots.as_slice())?;
-    push_nexts(&mut out, world.free.as_slice())?;
-    push_pools(&mut out, world.decls.as_slice(), world.pools.as_slice())?;
-    out.extend_from_slice(b"end\n")?;
+    push_world(&mut out, document)?;
     Ok(out)
 }
 
+/// Appends the canonical text of a lawful document, as [`write_world`] makes it. After a refusal, which
+/// comes where memory for the text runs out, some front of it may have been appended.
+pub fn push_world(out: &mut Vec<u8>, document: &Document) -> Result<(), OutOfMemory>
+    requires { IsLawfulDocument document.now }
+    ensures { OnOk result (out.new.items ≡ out.old.items ++ text document.now) }
+{
+    let world = &document.world;
+    push_number(out, b"world ", VERSION_1.version)?;
+    push_decls(out, world.decls.as_slice())?;
+    push_number(out, b"tick ", world.tick)?;
+    push_slots(out, world.slots.as_slice())?;
+    push_nexts(out, world.free.as_slice())?;
+    push_pools(out, world.decls.as_slice(), world.pools.as_slice())?;
+    out.extend_from_slice(b"end\n")?;
+    Ok(())
+}
+
 // A line of a word and a number.
-fn push_number(out: &mut Vec<u8>, word: &[u8], number: u64) -> Result<(), OutOfMemory>
-    requires { length word.now ≤ 6 }
-    ensures { OnOk result (out.new.items ≡
+pub(super) fn push_number(out: &mut Vec<u8>, word: &[u8], number: u64) -> Result<(), OutOfMemory>
+    requires { length word.now ≤ 16 }
+    ensures ok { OnOk result (out.new.items ≡
         out.old.items ++ (word.now ++ decimal number ++ 10 ∷ [])) }
+    ensures err { OnErr result (out.new.items ≡ out.old.items) }
 {
     let mut line = [0u8; ROOM];
     let at = write_number(word, number, &mut line);
@@ -48,9 +59,9 @@ fn push_number(out: &mut Vec<u8>, word: &[u8], number: u64) -> Result<(), OutOfM
 }
 
 // Writes a line of a word and a number at the end of the buffer, and says where it begins.
-fn write_number(word: &[u8], number: u64, line: &mut [u8; ROOM]) -> usize
-    requires { length word.now ≤ 6 }
-    ensures within { result ≤ 128 }
+pub(super) fn write_number(word: &[u8], number: u64, line: &mut [u8; ROOM]) -> usize
+    requires { length word.now ≤ 16 }
+    ensures within { (90 ≤ result) × (result ≤ 128) }
     ensures written { drop result line.new ≡ word.now ++ decimal number ++ 10 ∷ [] }
 {
     line[ROOM - 1] = b'\n';
@@ -59,7 +70,7 @@ fn write_number(word: &[u8], number: u64, line: &mut [u8; ROOM]) -> usize
 }
 
 // Writes a word so that it ends at `end`, and says where it begins.
-fn write_word(word: &[u8], buf: &mut [u8], end: usize) -> usize
+pub(super) fn write_word(word: &[u8], buf: &mut [u8], end: usize) -> usize
     requires { (length word.now ≤ end) × (end ≤ length buf.old) }
     ensures start { result + length word.now ≡ end }
     ensures written { drop result buf.new ≡ word.now ++ drop end buf.old }
@@ -176,10 +187,20 @@ fn write_row(decl: &Decl, entry: &(Entity, Row), line: &mut [u8; ROOM]) -> usize
     ensures written { drop result line.new ≡
         line_text version_1 (row_line version_1.profile decl.now entry.now) ++ 10 ∷ [] }
 {
-    line[ROOM - 1] = b'\n';
-    let values = write_values(decl.field_kinds(), &entry.1.f, line, ROOM - 1);
+    let values = write_row_end(decl, &entry.1, line);
     let entity = entry.0.write_text(VERSION_1.profile, line, values);
     write_word(b"row ", line, entity)
+}
+
+// Writes the values of a row and the end of its line at the end of the buffer, and says where they
+// begin.
+pub(super) fn write_row_end(decl: &Decl, row: &Row, line: &mut [u8; ROOM]) -> usize
+    ensures within { (39 ≤ result) × (result ≤ 127) }
+    ensures written { drop result line.new ≡
+        values_text version_1.profile (values_in version_1.profile decl.now row.now) ++ 10 ∷ [] }
+{
+    line[ROOM - 1] = b'\n';
+    write_values(decl.field_kinds(), &row.f, line, ROOM - 1)
 }
 
 // Writes the values of a row, each behind a space, as far as both slices go, so that they end at

@@ -1,9 +1,9 @@
-ghost use Rattle.std.specs.Prelude.{◌≡◌, ◌++◌, [], ℕ, List, codes, IfOk, IfErr, IsErrOf};
+ghost use Rattle.std.specs.Prelude.{◌≡◌, ◌≤◌, ◌++◌, [], ℕ, List, length, drop, codes, IfOk, IfErr, IsErrOf};
 ghost use Rattle.world_text.specs.Formats.{IsFormat};
 ghost use Rattle.world_text.specs.LineKinds.{Line};
-ghost use Rattle.world_text.specs.Documents.{IsDocument, IsLawfulDocument};
+ghost use Rattle.world_text.specs.Documents.{IsDocument, IsFront, IsLawfulDocument};
 ghost use Rattle.world_text.specs.Drafts.{Stands, Refuses, TakesLine, RefusesLine, world_in};
-ghost use Rattle.world_text.specs.Refusals.{IsCause};
+ghost use Rattle.world_text.specs.Refusals.{IsCause, IsFrontCause};
 
 use super::adding::add_end;
 use super::draft::Draft;
@@ -80,17 +80,32 @@ fn read_end<'a>(draft: &mut Draft, bytes: &'a [u8]) -> Result<&'a [u8], LineFaul
     Ok(after)
 }
 
-/// The document that a text is. `BadLine` comes exactly where that line is the first that is not
-/// admissible or that is missing, and `OutOfMemory` for want of memory.
-pub fn read_world(alloc: Global, bytes: &[u8]) -> Result<Document, TextRefused>
-    ensures document { IfOk result (λ document. IsDocument bytes.now document) }
-    ensures lawful { IfOk result (λ document. IsLawfulDocument document) }
-    ensures cause { IfErr result (IsCause bytes.now) }
+/// A document at the front of a text.
+#[derive(Debug, Drop)]
+pub struct Front {
+    /// The document.
+    pub document: Document,
+    /// How many bytes it has.
+    pub taken: u64,
+    /// How many lines it has.
+    pub lines: u64,
+}
+
+/// The document that stands at the front of a text; what stands behind its end isn't looked at.
+/// `BadLine` comes exactly where that line is the first of a document that is not admissible or that is
+/// missing, and `OutOfMemory` for want of memory.
+pub fn read_front(alloc: Global, bytes: &[u8]) -> Result<Front, TextRefused>
+    ensures front { IfOk result (λ front.
+        IsFront bytes.now front.document front.lines (drop front.taken bytes.now)) }
+    ensures within { IfOk result (λ front.
+        (front.lines ≤ front.taken) × (front.taken ≤ length bytes.now)) }
+    ensures lawful { IfOk result (λ front. IsLawfulDocument front.document) }
+    ensures cause { IfErr result (IsFrontCause bytes.now) }
 {
     let mut draft = empty_draft(alloc, VERSION_1);
     let mut rest = bytes;
     let mut lines = 0;
-    while !rest.is_empty() {
+    while draft.section != Section::End {
         match read_line(alloc, &mut draft, rest) {
             Ok(after) => rest = after,
             Err(LineFault::Bad) => return Err(TextRefused::BadLine { line: lines + 1 }),
@@ -98,10 +113,29 @@ pub fn read_world(alloc: Global, bytes: &[u8]) -> Result<Document, TextRefused>
         }
         lines += 1;
     }
-    if draft.section != Section::End {
-        return Err(TextRefused::BadLine { line: lines + 1 });
+    let document = finished(alloc, draft);
+    let taken = (bytes.len() - rest.len()) as u64;
+    Ok(Front {
+        document,
+        taken,
+        lines,
+    })
+}
+
+/// The document that a text is. `BadLine` comes exactly where that line is the first that is not
+/// admissible or that is missing, and `OutOfMemory` for want of memory.
+pub fn read_world(alloc: Global, bytes: &[u8]) -> Result<Document, TextRefused>
+    ensures document { IfOk result (λ document. IsDocument bytes.now document) }
+    ensures lawful { IfOk result (λ document. IsLawfulDocument document) }
+    ensures cause { IfErr result (IsCause bytes.now) }
+{
+    let front = read_front(alloc, bytes)?;
+    if front.taken < bytes.len() as u64 {
+        return Err(TextRefused::BadLine {
+            line: front.lines + 1,
+        });
     }
-    Ok(finished(alloc, draft))
+    Ok(front.document)
 }
 
 fn finished(alloc: Global, draft: Draft) -> Document

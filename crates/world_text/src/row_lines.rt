@@ -1,12 +1,11 @@
 //! Row lines, read from the front of the bytes behind their word, in one pass.
 
-ghost use Rattle.std.specs.Prelude.{◌≡◌, ◌++◌, ◌≤◌, ℕ, ℤ, List, length, codes, slice_get, Some, None, IfOk, IfSome, IfNone, IsErrOf, MatchOption, IsTrue, ◌||◌};
+ghost use Rattle.std.specs.Prelude.{◌≡◌, ◌++◌, ◌≤◌, ℕ, ℤ, List, length, codes, slice_get, Some, None, IfOk, IfSome, IfNone, IsErrOf, MatchOption, IsTrue};
 ghost use Rattle.world_model.specs.declared.component.Decl.{Decl};
 ghost use Rattle.entity_id.specs.declared.entity.Entity.{Entity};
-ghost use Rattle.entity_id.specs.Identifiers.{is_same, null};
 ghost use Rattle.entity_id.specs.Fields.{field_of};
 ghost use Rattle.entity_id.specs.Texts.{IsEntityFirst};
-ghost use Rattle.world_model.specs.Components.{kinds_of, is_below};
+ghost use Rattle.world_model.specs.Components.{kinds_of, is_target as target};
 ghost use Rattle.world_text.specs.FieldValues.{FieldValue};
 ghost use Rattle.world_text.specs.Formats.{IsFormat};
 ghost use Rattle.world_text.specs.Reading.{IsValueFirst, IsFieldFirst, AreValuesOf, IsRowOf};
@@ -17,7 +16,7 @@ use super::draft::Draft;
 use super::filling::add_row;
 use super::words::after;
 use entity_id::{Entity, Profile, take_entity};
-use world_model::{Decl, Kind, Row, take_int};
+use world_model::{Decl, Kind, Row, is_target, take_int};
 
 /// Reads a line `row ENTITY VALUE ..`, whose values are of the kinds of the last pool's component.
 pub fn read_row<'a>(draft: &mut Draft, text: &'a [u8]) -> Result<&'a [u8], LineFault>
@@ -53,7 +52,7 @@ fn kinds_at(decls: &[Decl], number: usize) -> Option<&[Kind]>
 
 // The row of values of these kinds, each behind a space, up to the end of the line, and what stands
 // behind that.
-fn take_row<'a>(profile: Profile, kinds: &[Kind], text: &'a [u8]) -> Option<(Row, &'a [u8])>
+pub fn take_row<'a>(profile: Profile, kinds: &[Kind], text: &'a [u8]) -> Option<(Row, &'a [u8])>
     requires { length kinds.now ≤ 4 }
     ensures some { IfSome result (λ x. IsRowOf profile kinds.now text.now x.0 x.1.now) }
     ensures none { IfNone result ((values : List FieldValue) (more : List ℕ) →
@@ -88,11 +87,11 @@ fn take_field(profile: Profile, kind: Kind, text: &[u8]) -> Option<(i64, &[u8])>
 fn take_target(profile: Profile, text: &[u8]) -> Option<(i64, &[u8])>
     ensures some { IfSome result (λ x. (entity : Entity) ×
         IsEntityFirst profile text.now entity x.1.now ×
-        IsTrue (is_same entity (null profile) || is_below profile entity) ×
+        IsTrue (target profile entity) ×
         (x.0 ≡ field_of profile entity)) }
     ensures none { IfNone result ((entity : Entity) (rest : List ℕ) →
         IsEntityFirst profile text.now entity rest →
-        IsTrue (is_same entity (null profile) || is_below profile entity) → ⊥) }
+        IsTrue (target profile entity) → ⊥) }
 {
     let (entity, rest) = take_entity(profile, text)?;
     if is_target(profile, entity) {
@@ -100,11 +99,4 @@ fn take_target(profile: Profile, text: &[u8]) -> Option<(i64, &[u8])>
     } else {
         None
     }
-}
-
-fn is_target(profile: Profile, entity: Entity) -> bool
-    ensures { result ≡ (is_same entity (null profile) || is_below profile entity) }
-{
-    (entity.index == profile.index_limit && entity.version == profile.version_limit)
-        || (entity.index < profile.index_limit && entity.version < profile.version_limit)
 }

@@ -1,9 +1,9 @@
 use Rattle.std.proofs.Common.{◌≡◌, true, false, length, refl, sym, ap, ◌∙◌, arith, rules}
+use Rattle.world_model.specs.Components.{has_name}
 use Rattle.world_text.specs.LineKinds as line
 use Rattle.world_text.specs.declared.section.Section.TheVariants as section
 use Rattle.world_text.specs.Sections.{is_between}
 use Rattle.std.specs.List.{list_any}
-use Rattle.world_text.specs.Fitting.{has_name}
 use Rattle.world_text.specs.Meaning.{decl_in, slot_in, next_in}
 use Rattle.world_text.proofs.MeaningLemmas.{gains, keeps, last_section_push, pools_in-other}
 use Rattle.world_text.proofs.SettledLemmas.{settled_same}

@@ -1,10 +1,10 @@
 use Rattle.std.proofs.Common.{◌≡◌, ◌++◌, ◌∷◌, [], true, false, length, refl, sym, ap, ◌∙◌, arith, rules, slice_get}
 use Rattle.std.specs.List.{list_all}
 use Rattle.std.specs.Option.{option_map_or}
+use Rattle.world_model.specs.Components.{has_name}
 use Rattle.world_text.specs.LineKinds as line
 use Rattle.world_text.specs.declared.section.Section.TheVariants as section
 use Rattle.world_text.specs.Sections.{is_between}
-use Rattle.world_text.specs.Fitting.{has_name}
 use Rattle.world_text.specs.Meaning.{decl_in, slot_in, next_in}
 use Rattle.world_text.proofs.MeaningLemmas.{keeps, last_section_push, pools_in-pool}
 use Rattle.world_text.proofs.SettledLemmas.{settled_same, none_unsettled, some_unsettled}

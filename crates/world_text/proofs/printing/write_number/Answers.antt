@@ -19,3 +19,9 @@ write_word-requires c =
 pub returns-clause-written : goal.returns-clause-written
 returns-clause-written c =
     rw (c.write_word.ensures.written, c.write_digits-at.ensures.written, drop-set c.args.line.now 127 10 (omega arith), drop_all 128 c.args.line.now (omega arith), append_assoc)
+
+pub returns-clause-within : goal.returns-clause-within
+returns-clause-within c =
+    let digits = length-decimal-le 20 c.args.number (omega arith) (omega arith) (omega arith) in
+    let kept = length-set c.args.line.now 127 10 in
+    (omega arith, omega arith)

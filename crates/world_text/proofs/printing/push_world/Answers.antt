@@ -8,7 +8,7 @@ use Rattle.world_text.specs.Formats.{version_1}
 use Rattle.world_text.specs.Lines.{line_text, text_of}
 use Rattle.world_text.specs.Documents.{pool_lines, lines_of}
 use Rattle.world_text.proofs.PrintingLemmas.{text_of-append}
-use Rattle.world_text.proofs.printing.write_world.Goals as goal
+use Rattle.world_text.proofs.printing.push_world.Goals as goal
 
 -- the canonical text, part by part
 parts : (w : World) → text_of version_1 (lines_of w) ≡ (codes "world " ++ decimal 1 ++ 10 ∷ []) ++ (text_of version_1 (map line.Component w.decls) ++ ((codes "tick " ++ decimal w.tick ++ 10 ∷ []) ++ (text_of version_1 (map line.Slot w.slots) ++ (text_of version_1 (map line.Next w.free) ++ (text_of version_1 (flat_map (pool_lines w.profile) (zip w.decls w.pools)) ++ (codes "end" ++ 10 ∷ []))))))
@@ -20,19 +20,18 @@ parts w =
     ap (λ x. first ++ x) (text_of-append version_1 (map line.Component w.decls) _)
     ∙ ap (λ x. first ++ (text_of version_1 (map line.Component w.decls) ++ (tick ++ x))) (text_of-append version_1 (map line.Slot w.slots) _ ∙ ap (λ x. slots ++ x) (text_of-append version_1 (map line.Next w.free) _ ∙ ap (λ x. text_of version_1 (map line.Next w.free) ++ x) (text_of-append version_1 pools (line.End ∷ []))))
 
-seven_parts : (one two three four five six seven a b d e f g h : List ℕ) → one ≡ a → two ≡ one ++ b → three ≡ two ++ d → four ≡ three ++ e → five ≡ four ++ f → six ≡ five ++ g → seven ≡ six ++ h → seven ≡ a ++ (b ++ (d ++ (e ++ (f ++ (g ++ h)))))
-seven_parts one two three four five six seven a b d e f g h p q r s t u v =
+seven_parts : (start one two three four five six seven a b d e f g h : List ℕ) → one ≡ start ++ a → two ≡ one ++ b → three ≡ two ++ d → four ≡ three ++ e → five ≡ four ++ f → six ≡ five ++ g → seven ≡ six ++ h → seven ≡ start ++ (a ++ (b ++ (d ++ (e ++ (f ++ (g ++ h))))))
+seven_parts start one two three four five six seven a b d e f g h p q r s t u v =
     v ∙ ap (λ x. x ++ h) (u ∙ ap (λ x. x ++ g) (t ∙ ap (λ x. x ++ f) (s ∙ ap (λ x. x ++ e) (r ∙ ap (λ x. x ++ d) (q ∙ ap (λ x. x ++ b) p))))) ∙ simp append_assoc
 
 pub returns : goal.returns
 returns c =
     let w = c.args.document.now.world in
-    let begun : c.push_number.new.out.items ≡ codes "world " ++ decimal 1 ++ 10 ∷ [] = c.in_ok-push_number.ensures ∙ ap (λ (out : List ℕ). out ++ (codes "world " ++ decimal 1 ++ 10 ∷ [])) c.new-out.ensures.items in
     let decls : c.push_decls.new.out.items ≡ c.push_number.new.out.items ++ text_of version_1 (map line.Component w.decls) = rw c.as_slice.ensures at c.in_ok-push_decls.ensures in
     let slots : c.push_slots.new.out.items ≡ c.push_number-2.new.out.items ++ text_of version_1 (map line.Slot w.slots) = rw c.as_slice-2.ensures at c.in_ok-push_slots.ensures in
     let nexts : c.push_nexts.new.out.items ≡ c.push_slots.new.out.items ++ text_of version_1 (map line.Next w.free) = rw c.as_slice-3.ensures at c.in_ok-push_nexts.ensures in
     let pools : c.push_pools.new.out.items ≡ c.push_nexts.new.out.items ++ text_of version_1 (flat_map (pool_lines w.profile) (zip w.decls w.pools)) =
     (rw (c.as_slice-4.ensures, c.as_slice-5.ensures) at c.in_ok-push_pools.ensures)
     ∙ ap (λ (p : Profile). c.push_nexts.new.out.items ++ text_of version_1 (flat_map (pool_lines p) (zip w.decls w.pools))) (sym c.requires.profile) in
-    seven_parts _ _ _ _ _ _ _ _ _ _ _ _ _ _ begun decls c.in_ok-push_number-2.ensures slots nexts pools c.in_ok-extend_from_slice.ensures.items
-    ∙ sym (parts w)
+    seven_parts _ _ _ _ _ _ _ _ _ _ _ _ _ _ _ c.in_ok-push_number.ensures.ok decls c.in_ok-push_number-2.ensures.ok slots nexts pools c.in_ok-extend_from_slice.ensures.items
+    ∙ ap (λ x. c.args.out.now.items ++ x) (sym (parts w))

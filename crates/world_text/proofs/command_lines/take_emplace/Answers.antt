@@ -1,0 +1,20 @@
+use Rattle.std.proofs.Common.{◌≡◌, Some, slice_get, arith}
+use Rattle.world_text.specs.Formats.{version_1}
+use Rattle.world_text.proofs.EmplaceLemmas.{found_at, no_emplace_entry, no_emplace_row, emplace_first}
+use Rattle.world_text.proofs.command_lines.take_emplace.Goals as goal
+
+pub returns-in_err-entity-clause-none : goal.returns-in_err-entity-clause-none
+returns-in_err-entity-clause-none c =
+    rw c.from_residual.ensures (no_emplace_entry version_1.profile c.args.decls.now c.args.text.now c.in_err-entity.ensures.none)
+
+pub returns-in_err-row-clause-none : goal.returns-in_err-row-clause-none
+returns-in_err-row-clause-none c =
+    let at : slice_get c.args.decls.now c.in_ok-entity.pool ≡ Some c.index-decls-pool.result = found_at c.args.decls.now c.in_ok-entity.pool c.index-decls-pool.result c.in_ok-entity.ensures.within c.index-decls-pool.is in
+    rw c.from_residual-in_err-row.ensures (no_emplace_row version_1.profile c.args.decls.now c.args.text.now c.in_ok-entity.rest.now c.in_ok-entity.entity c.in_ok-entity.pool c.index-decls-pool.result c.field_kinds-kinds.result.now
+    (record { index = omega arith; version = omega arith }) c.requires c.in_ok-entity.ensures.some at c.field_kinds-kinds.ensures.value c.in_err-row.ensures.none)
+
+pub returns-clause-some : goal.returns-clause-some
+returns-clause-some c =
+    let at : slice_get c.args.decls.now c.in_ok-entity.pool ≡ Some c.index-decls-pool.result = found_at c.args.decls.now c.in_ok-entity.pool c.index-decls-pool.result c.in_ok-entity.ensures.within c.index-decls-pool.is in
+    emplace_first version_1.profile c.args.decls.now c.args.text.now c.in_ok-entity.rest.now c.in_ok-row.rest.now c.in_ok-entity.entity c.in_ok-entity.pool c.index-decls-pool.result c.field_kinds-kinds.result.now c.in_ok-row.row
+    (record { index = omega arith; version = omega arith }) c.requires c.in_ok-entity.ensures.some at c.field_kinds-kinds.ensures.value c.in_ok-row.ensures.some
