@@ -1,2 +1,4 @@
 pub mod Output
 pub mod Endings
+pub mod LiveWorlds
+pub mod Playing

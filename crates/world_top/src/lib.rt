@@ -4,9 +4,16 @@
 //! call may end in `specs/Endings.antt`: both are clauses of [`top`] and [`plain`].
 #![tactic(auto)]
 
+mod apply;
+mod commands;
+mod live_world;
+mod loading;
 mod outcome;
+mod perform;
+mod playing;
 mod program;
 mod report;
+mod saving;
 mod snapshot;
 mod verb;
 

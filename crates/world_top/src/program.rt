@@ -1,10 +1,10 @@
 ghost use Rattle.std.specs.Prelude.{◌≡◌};
 ghost use Rattle.world_top.specs.Endings.{Ends};
 
+use super::perform::perform;
 use super::report::report;
-use super::snapshot::snapshot;
 use super::verb::verb_of;
-use super::{Outcome, Status, Verb};
+use super::{Outcome, Status};
 use ecs_io::{Sink, Source};
 use std::alloc::Global;
 use std::sync::Wait;
@@ -62,7 +62,7 @@ pub fn plain<S: Source, K: Sink, E: Sink>(
         result.number }
 {
     let outcome = match verb_of(words) {
-        Some(Verb::Snapshot) => snapshot(alloc, source, sink),
+        Some(verb) => perform(alloc, verb, source, sink),
         None => Outcome::Usage,
     };
     // A line that can't be written changes no status.

@@ -5,6 +5,8 @@ use ecs_io::{MemSink, MemSource};
 use entity_id::Counts;
 use std::test::Fail;
 
+mod apply;
+
 const EMPTY: &[u8] = b"world 1\ntick 0\nend\n";
 
 // How a run ended: its status, what it wrote, and what it wrote on the fault sink.
