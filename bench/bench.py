@@ -102,16 +102,89 @@ def draw_value(field: Optional[tuple[int, int]], versions: array.array, draws: D
     return f"{index}:{versions[index]}"
 
 
+# The components of the script's document, each with its number of fields, all `int`.
+SCRIPT_COMPONENTS = [("position", 2), ("velocity", 2), ("health", 1), ("frozen", 0), ("team", 1), ("tag", 0)]
+FEWEST_LIVE = 1000  # entities below which each command makes one
+
+
+class LiveEntities:
+    """The identifiers that are live between two commands, as the program gives them out."""
+
+    def __init__(self) -> None:
+        self.live: list[tuple[int, int]] = []
+        self.versions: list[int] = []
+        self.free: list[int] = []
+
+    def create(self) -> None:
+        """The index released last with its next version, or a new one with version 0."""
+        if self.free:
+            index = self.free.pop()
+        else:
+            index = len(self.versions)
+            self.versions.append(0)
+        self.live.append((index, self.versions[index]))
+
+    def destroy(self, place: int) -> None:
+        """The last of the list takes the place of the one that goes."""
+        index, version = self.live[place]
+        self.live[place] = self.live[-1]
+        self.live.pop()
+        self.versions[index] = (version + 1) % 4095
+        self.free.append(index)
+
+
+def write_script(out: TextIO, commands: int) -> None:
+    """Writes a document of components alone, and behind it a script of so many commands."""
+    draws = Draws(commands)
+    entities = LiveEntities()
+    out.write("world 1\n")
+    for name, fields in SCRIPT_COMPONENTS:
+        out.write(" ".join(["component", name] + ["int"] * fields) + "\n")
+    out.write("tick 0\n")
+    for name, _ in SCRIPT_COMPONENTS:
+        out.write(f"pool {name}\n")
+    out.write("end\nscript\n")
+    for _ in range(commands):
+        out.write(draw_command(entities, draws) + "\n")
+    out.write("end\n")
+
+
+def draw_command(entities: LiveEntities, draws: Draws) -> str:
+    """A command: of 100 there are 18 `create`, 38 `emplace`, 19 `get`, 12 `remove`, 10 `destroy` and 3 `valid`.
+
+    Each but `create` is on a live entity, so the refusals are `present` and `absent`.
+    """
+    kind = draws.below(100)
+    if len(entities.live) < FEWEST_LIVE or kind < 18:
+        entities.create()
+        return "create"
+    place = draws.below(len(entities.live))
+    entity = "%d:%d" % entities.live[place]
+    name, fields = SCRIPT_COMPONENTS[draws.below(len(SCRIPT_COMPONENTS))]
+    if kind < 56:
+        return " ".join(["emplace", entity, name] + [str(draws.between(-1000, 999)) for _ in range(fields)])
+    if kind < 75:
+        return f"get {entity} {name}"
+    if kind < 87:
+        return f"remove {entity} {name}"
+    if kind < 97:
+        entities.destroy(place)
+        return f"destroy {entity}"
+    return f"valid {entity}"
+
+
 class Workload(NamedTuple):
-    """What is measured: the program's words, and the function that writes its input for so many entities."""
+    """What is measured: the program's words, what its input counts, and the function that writes so many."""
 
     name: str
     words: list[str]
+    counted: str
     write_input: Callable[[TextIO, int], None]
 
 
 WORKLOADS = [
-    Workload("snapshot", ["snapshot"], write_plain_document),
+    Workload("snapshot", ["snapshot"], "entities", write_plain_document),
+    Workload("apply", ["apply"], "commands", write_script),
 ]
 
 
@@ -176,46 +249,53 @@ def print_summaries(summaries: list[Summary], input_bytes: int) -> None:
               f"{ours.peak_bytes / other.peak_bytes:9.2f}")
 
 
-def write_input(workload: Workload, entities: int, path: str) -> int:
+def write_input(workload: Workload, count: int, path: str) -> int:
     """Writes the workload's input, and returns its size in bytes."""
     with open(path, "w", encoding="ascii", newline="\n") as out:
-        workload.write_input(out, entities)
+        workload.write_input(out, count)
     size = os.path.getsize(path)
     if size > MOST_INPUT:
-        sys.exit(f"the input has {size} bytes, and the program reads {MOST_INPUT}: take fewer entities")
+        sys.exit(f"the input has {size} bytes, and the program reads {MOST_INPUT}: take fewer {workload.counted}")
     return size
 
 
 def parse_options() -> argparse.Namespace:
     """Reads the script's words."""
     parser = argparse.ArgumentParser(description=__doc__, formatter_class=argparse.RawDescriptionHelpFormatter)
-    parser.add_argument("--workload", choices=[workload.name for workload in WORKLOADS], default=WORKLOADS[0].name)
-    parser.add_argument("--entities", type=int, default=1_000_000, help="entities of the input (1000000)")
+    names = [workload.name for workload in WORKLOADS]
+    parser.add_argument("--workload", choices=names, help="one workload, and not one after another")
+    parser.add_argument("--count", type=int, default=1_000_000, help="entities or commands of the input (1000000)")
     parser.add_argument("--runs", type=int, default=5, help="runs of each program (5)")
     parser.add_argument("--beside", metavar="CMD", type=shlex.split, help="a second program, without its words")
-    parser.add_argument("--keep", metavar="FILE", help="keep the input in this file")
+    parser.add_argument("--keep", metavar="FOLDER", help="keep the inputs in this folder, which is there")
     return parser.parse_args()
 
 
+def run_workload(workload: Workload, options: argparse.Namespace, folder: str) -> bool:
+    """Measures one workload and prints what was found, and tells whether the outputs are equal."""
+    programs = [[PROGRAM]] + ([options.beside] if options.beside else [])
+    input_path = os.path.join(options.keep or folder, f"{workload.name}-{options.count}")
+    outputs = [os.path.join(folder, f"output-{number}") for number in range(len(programs))]
+    size = write_input(workload, options.count, input_path)
+    print(f"{workload.name}: {options.count} {workload.counted}, {size} bytes, {options.runs} runs each", flush=True)
+    summaries = measure([program + workload.words for program in programs], input_path, outputs, options.runs)
+    print_summaries(summaries, size)
+    if len(outputs) < 2:
+        return True
+    equal = filecmp.cmp(*outputs, shallow=False)
+    print("outputs: equal" if equal else "outputs: DIFFERENT")
+    return equal
+
+
 def main() -> int:
-    """Measures one workload. The status is 1 where the outputs differ."""
+    """Measures the workloads. The status is 1 where outputs differ."""
     options = parse_options()
     if not os.path.exists(PROGRAM):
         sys.exit(f"{PROGRAM} isn't built: start bin/world once")
-    workload = next(workload for workload in WORKLOADS if workload.name == options.workload)
-    programs = [[PROGRAM]] + ([options.beside] if options.beside else [])
+    chosen = [workload for workload in WORKLOADS if options.workload in (None, workload.name)]
     with tempfile.TemporaryDirectory() as folder:
-        input_path = options.keep or os.path.join(folder, "input")
-        outputs = [os.path.join(folder, f"output-{number}") for number in range(len(programs))]
-        size = write_input(workload, options.entities, input_path)
-        print(f"{workload.name}: {options.entities} entities, {size} bytes, {options.runs} runs each")
-        summaries = measure([program + workload.words for program in programs], input_path, outputs, options.runs)
-        print_summaries(summaries, size)
-        if len(outputs) == 2:
-            equal = filecmp.cmp(*outputs, shallow=False)
-            print("outputs: equal" if equal else "outputs: DIFFERENT")
-            return 0 if equal else 1
-    return 0
+        equal = [run_workload(workload, options, folder) for workload in chosen]
+    return 0 if all(equal) else 1
 
 
 if __name__ == "__main__":
