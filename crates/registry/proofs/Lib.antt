@@ -1,0 +1,15 @@
+pub mod ClearLemmas
+pub mod DestroyLemmas
+pub mod DoneLemmas
+pub mod FreshLemmas
+pub mod HeardLemmas
+pub mod HeapLemmas
+pub mod HintLemmas
+pub mod LeavingLemmas
+pub mod MapListLemmas
+pub mod OrderLemmas
+pub mod PoolLemmas
+pub mod QueryLemmas
+pub mod ResultLemmas
+pub mod RunLemmas
+pub mod ViewLemmas

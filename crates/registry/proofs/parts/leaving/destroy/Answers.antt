@@ -1,0 +1,33 @@
+use Rattle.std.proofs.Common.{◌≡◌, not, None, true, sym, ap, ◌∙◌}
+use Rattle.world_model.specs.declared.command.Command.TheVariants.{Destroy}
+use Rattle.world_model.specs.declared.refusal.Refusal.TheVariants as refusal
+use Rattle.world_model.specs.Refusing.{refuse}
+use Rattle.world_model.specs.Slots.{is_live}
+use Rattle.registry.specs.Held.{refusal_to}
+use Rattle.registry.specs.Layout.{held_of}
+use Rattle.registry.proofs.DestroyLemmas.{destroyed}
+use Rattle.registry.proofs.DoneLemmas.{refused, did}
+use Rattle.registry.proofs.ResultLemmas.{on_ok}
+use Rattle.registry.proofs.parts.leaving.destroy.Goals as goal
+
+pub returns-then-not-valid-clause-does : goal.returns-then-not-valid-clause-does
+returns-then-not-valid-clause-does g c =
+    (refused (held_of c.args.parts.now) (Destroy c.args.entity) refusal.Dead (ap (λ b. refuse (not b) refusal.Dead) (sym c.if-not-valid.ensures))).0
+
+pub returns-clause-kept : goal.returns-clause-kept
+returns-clause-kept g c =
+    let old = c.args.parts.now in
+    let live : is_live old.slots.slots c.args.entity ≡ true = sym c.if-not-valid.ensures in
+    let fine : refusal_to (held_of old) (Destroy c.args.entity) ≡ None = ap (λ b. refuse (not b) refusal.Dead) live in
+    let lists = on_ok c.destroy.result (c.destroy.ensures.live ∙ live) c.destroy.ensures.lists in
+    let all = c.leave_all.ensures in
+    (did old _ (Destroy c.args.entity) c.requires tt fine (destroyed old c.destroy.new.self c.leave_all.new.pools c.leave_all.new.signals c.args.entity c.requires lists all.maps all.hearings all.signal_each all.room)).0
+
+pub returns-clause-does : goal.returns-clause-does
+returns-clause-does g c =
+    let old = c.args.parts.now in
+    let live : is_live old.slots.slots c.args.entity ≡ true = sym c.if-not-valid.ensures in
+    let fine : refusal_to (held_of old) (Destroy c.args.entity) ≡ None = ap (λ b. refuse (not b) refusal.Dead) live in
+    let lists = on_ok c.destroy.result (c.destroy.ensures.live ∙ live) c.destroy.ensures.lists in
+    let all = c.leave_all.ensures in
+    (did old _ (Destroy c.args.entity) c.requires tt fine (destroyed old c.destroy.new.self c.leave_all.new.pools c.leave_all.new.signals c.args.entity c.requires lists all.maps all.hearings all.signal_each all.room)).1

@@ -1,0 +1,18 @@
+use Rattle.std.proofs.Common.{List, [], length, replicate, ap, ◌∙◌}
+use Rattle.world_model.specs.declared.component.Decl.{Decl}
+use Rattle.world_model.proofs.LawfulLemmas.{empty_lawful}
+use Rattle.registry.proofs.FreshLemmas.{fresh_new}
+use Rattle.registry.proofs.ResultLemmas.{if_ok}
+use Rattle.registry.proofs.parts.making.new.Goals as goal
+
+pub returns-clause-kept : goal.returns-clause-kept
+returns-clause-kept g c =
+    let a = c.args in
+    let lawful = empty_lawful a.slot_limit a.profile a.decls c.requires.profile c.requires.addressable c.requires.few c.requires.decls in
+    if_ok c.unheard_parts.result c.unheard_parts.ensures (λ parts made. (fresh_new parts a.profile a.slot_limit a.decls c.new-slots.result c.in_ok-pools.pools.items made c.new-slots.ensures (c.in_ok-pools.ensures ∙ ap (λ (decls : List Decl). replicate (length decls) []) c.as_slice.ensures) lawful).0)
+
+pub returns-clause-held : goal.returns-clause-held
+returns-clause-held g c =
+    let a = c.args in
+    let lawful = empty_lawful a.slot_limit a.profile a.decls c.requires.profile c.requires.addressable c.requires.few c.requires.decls in
+    if_ok c.unheard_parts.result c.unheard_parts.ensures (λ parts made. (fresh_new parts a.profile a.slot_limit a.decls c.new-slots.result c.in_ok-pools.pools.items made c.new-slots.ensures (c.in_ok-pools.ensures ∙ ap (λ (decls : List Decl). replicate (length decls) []) c.as_slice.ensures) lawful).1)

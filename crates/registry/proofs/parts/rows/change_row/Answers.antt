@@ -1,0 +1,24 @@
+use Rattle.std.proofs.Common.{length}
+use Rattle.registry.proofs.PoolLemmas.{read_at, row_set, not_set}
+use Rattle.registry.proofs.ResultLemmas.{both_ok, both_err}
+use Rattle.registry.proofs.parts.rows.change_row.Goals as goal
+
+pub returns-clause-ok : goal.returns-clause-ok
+returns-clause-ok g c =
+    let old = c.args.parts.now in
+    let h = c.requires.kept in
+    let at = c.args.pool in
+    let low = c.requires.declared in
+    both_ok c.change.result c.change.ensures.map c.change.ensures.heard (λ map heard. row_set old at c.index_mut.result.now c.change.new.pool (read_at old.pools.items (length old.decls) at _ h.pool_each low c.index_mut.ensures.value)
+    c.index_mut-2.result.now c.change.new.update (read_at old.update.items (length old.decls) at _ h.update_each low c.index_mut-2.ensures.value)
+    h c.change.ensures.len c.args.entity c.args.row map heard)
+
+pub returns-clause-err : goal.returns-clause-err
+returns-clause-err g c =
+    let old = c.args.parts.now in
+    let h = c.requires.kept in
+    let at = c.args.pool in
+    let low = c.requires.declared in
+    both_err c.change.result c.change.ensures.err c.change.ensures.heard_err (λ same quiet. not_set old at c.index_mut.result.now c.change.new.pool (read_at old.pools.items (length old.decls) at _ h.pool_each low c.index_mut.ensures.value)
+    c.index_mut-2.result.now c.change.new.update (read_at old.update.items (length old.decls) at _ h.update_each low c.index_mut-2.ensures.value)
+    h c.change.ensures.len same quiet)

@@ -1,0 +1,69 @@
+-- What a contract sees of a registry, and what its calls do to it.
+use Rattle.std.specs.Prelude.{◌≡◌, ℕ, ◌++◌, List, [], map, replicate, length, Option, slice_get}
+use Rattle.std.specs.Option.{option_map}
+use Rattle.signal_sink.specs.Hearings.{Hearing, heard_lists}
+use Rattle.world_model.specs.declared.command.Command.{Command}
+use Rattle.world_model.specs.declared.command.Reply.{Reply}
+use Rattle.world_model.specs.declared.event.Event.{Event}
+use Rattle.world_model.specs.declared.event.EventKind.{EventKind}
+use Rattle.world_model.specs.declared.event.EventKind.TheVariants as event
+use Rattle.world_model.specs.declared.refusal.Refusal.{Refusal}
+use Rattle.world_model.specs.declared.world.World.{World}
+use Rattle.world_model.specs.Refusing.{refusal_of}
+use Rattle.world_model.specs.Steps.{step, heard_by}
+
+-- a world at tick 0 with at most so many slots, and for each kind of event the listeners of each pool
+pub record Held : Type 0 where
+  -- the most slots
+  pub limit : ℕ
+  -- the world that the registry stands for
+  pub world : World
+  -- the listeners of each pool that hear of rows added
+  pub construct : List (List (Option Hearing))
+  -- those that hear of rows replaced and fields set
+  pub update : List (List (Option Hearing))
+  -- those that hear of rows removed
+  pub destroy : List (List (Option Hearing))
+
+-- what listeners heard, with the events of their kind and pool behind it
+abbrev pub heard_after : EventKind → ℕ → List Event → List (Option (List Event)) → List (Option (List Event))
+heard_after kind pool events lists = map (option_map (λ heard. heard ++ heard_by kind pool events)) lists
+
+-- each listener of a kind has heard, of these events, just those of its kind and pool more
+abbrev pub Hear : EventKind → List Event → List (List (Option Hearing)) → List (List (Option Hearing)) → Type 0
+Hear kind events old new =
+    (pool : ℕ) → option_map heard_lists (slice_get new pool) ≡ option_map (λ hearings. heard_after kind pool events (heard_lists hearings)) (slice_get old pool)
+
+-- the world is this one now, and the listeners have heard these events
+pub record Becomes (old new : Held) (after : World) (events : List Event) : Type 0 where
+  pub limit : new.limit ≡ old.limit
+  pub world : new.world ≡ after
+  pub construct : Hear event.Construct events old.construct new.construct
+  pub update : Hear event.Update events old.update new.update
+  pub destroy : Hear event.Destroy events old.destroy new.destroy
+
+-- the command's step: its world, and its events
+abbrev pub Does : Held → Held → Command → Type 0
+Does old new command = let outcome = step old.limit old.world command in Becomes old new outcome.world outcome.events
+
+-- all is as before, but for spare
+abbrev pub AsBefore : Held → Held → Type 0
+AsBefore old new = Becomes old new old.world []
+
+-- a registry of this world that nobody listens to
+abbrev pub unheard : ℕ → World → Held
+unheard limit world = record {
+  limit = limit;
+  world = world;
+  construct = replicate (length world.decls) [];
+  update = replicate (length world.decls) [];
+  destroy = replicate (length world.decls) [];
+}
+
+-- what the command is answered
+abbrev pub reply_to : Held → Command → Reply
+reply_to held command = (step held.limit held.world command).reply
+
+-- why the command is refused, if it is
+abbrev pub refusal_to : Held → Command → Option Refusal
+refusal_to held command = refusal_of held.limit held.world command

@@ -1,0 +1,6 @@
+pub mod Clearing
+pub mod Held
+pub mod Layout
+pub mod Leaving
+pub mod Listeners
+pub mod Running

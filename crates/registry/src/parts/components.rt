@@ -1,0 +1,177 @@
+//! The commands on one row.
+
+ghost use Rattle.std.specs.Prelude.{◌≡◌, ◌≢◌, ◌+◌, ◌≤◌, Some, IfOk, IfErr, OnOk, OnErr};
+ghost use Rattle.world_model.specs.declared.command.Command.TheVariants.{Emplace, EmplaceOrReplace, Replace, Patch, Remove, Erase};
+ghost use Rattle.world_model.specs.declared.command.Reply.TheVariants.{Done, Number, Refused};
+ghost use Rattle.world_model.specs.Components.{with_field};
+ghost use Rattle.world_model.specs.Conditions.{IsAllowed};
+ghost use Rattle.registry.specs.Held.{Does, AsBefore, reply_to, refusal_to};
+ghost use Rattle.registry.specs.Layout.{world_of, held_of, IsKept};
+
+use super::Parts;
+use super::refusing::{entry_refusal, has_row, row_of};
+use super::rows::{change_row, drop_row, put_row};
+use entity_id::Entity;
+use signal_sink::Listener;
+use sparse_set::Steps;
+use std::sync::ledger::Ledger;
+use world_model::{Refusal, Row};
+
+// Adds a row.
+pub fn emplace<L: Listener, G: Ledger>(
+    parts: &mut Parts<L>,
+    entity: Entity,
+    pool: u32,
+    row: Row,
+    steps: &mut Steps<G>,
+) -> Result<(), Refusal>
+    requires kept { IsKept parts.old }
+    requires allowed { IsAllowed (world_of parts.old) (Emplace entity pool row) }
+    ensures kept { IsKept parts.new }
+    ensures ok { OnOk result
+        (Does (held_of parts.old) (held_of parts.new) (Emplace entity pool row)) }
+    ensures reply { OnOk result (reply_to (held_of parts.old) (Emplace entity pool row) ≡ Done) }
+    ensures err { OnErr result (AsBefore (held_of parts.old) (held_of parts.new)) }
+    ensures cause { IfErr result (λ refused. refused ≢ Refusal.OutOfMemory →
+        refusal_to (held_of parts.old) (Emplace entity pool row) ≡ Some refused) }
+    ensures steps { steps.new ≤ steps.old + 1 }
+{
+    match entry_refusal(parts, entity, pool) {
+        Some(refused) => Err(refused),
+        None => put_row(parts, entity, pool, row, steps),
+    }
+}
+
+// Replaces a row.
+pub fn replace<L: Listener>(
+    parts: &mut Parts<L>,
+    entity: Entity,
+    pool: u32,
+    row: Row,
+) -> Result<(), Refusal>
+    requires kept { IsKept parts.old }
+    requires allowed { IsAllowed (world_of parts.old) (Replace entity pool row) }
+    ensures kept { IsKept parts.new }
+    ensures ok { OnOk result
+        (Does (held_of parts.old) (held_of parts.new) (Replace entity pool row)) }
+    ensures reply { OnOk result (reply_to (held_of parts.old) (Replace entity pool row) ≡ Done) }
+    ensures err { OnErr result (AsBefore (held_of parts.old) (held_of parts.new)) }
+    ensures cause { IfErr result (λ refused. refused ≢ Refusal.OutOfMemory →
+        refusal_to (held_of parts.old) (Replace entity pool row) ≡ Some refused) }
+{
+    match entry_refusal(parts, entity, pool) {
+        Some(refused) => Err(refused),
+        None => change_row(parts, entity, pool, row),
+    }
+}
+
+// Adds a row, or replaces the one that is there.
+pub fn emplace_or_replace<L: Listener, G: Ledger>(
+    parts: &mut Parts<L>,
+    entity: Entity,
+    pool: u32,
+    row: Row,
+    steps: &mut Steps<G>,
+) -> Result<(), Refusal>
+    requires kept { IsKept parts.old }
+    requires allowed { IsAllowed (world_of parts.old) (EmplaceOrReplace entity pool row) }
+    ensures kept { IsKept parts.new }
+    ensures ok { OnOk result
+        (Does (held_of parts.old) (held_of parts.new) (EmplaceOrReplace entity pool row)) }
+    ensures reply { OnOk result
+        (reply_to (held_of parts.old) (EmplaceOrReplace entity pool row) ≡ Done) }
+    ensures err { OnErr result (AsBefore (held_of parts.old) (held_of parts.new)) }
+    ensures cause { IfErr result (λ refused. refused ≢ Refusal.OutOfMemory →
+        refusal_to (held_of parts.old) (EmplaceOrReplace entity pool row) ≡ Some refused) }
+    ensures steps { steps.new ≤ steps.old + 1 }
+{
+    match entry_refusal(parts, entity, pool) {
+        Some(refused) => Err(refused),
+        None if has_row(parts, entity, pool) => change_row(parts, entity, pool, row),
+        None => put_row(parts, entity, pool, row, steps),
+    }
+}
+
+// Sets one field of a row.
+pub fn patch<L: Listener>(
+    parts: &mut Parts<L>,
+    entity: Entity,
+    pool: u32,
+    field: u32,
+    value: i64,
+) -> Result<(), Refusal>
+    requires kept { IsKept parts.old }
+    requires allowed { IsAllowed (world_of parts.old) (Patch entity pool field value) }
+    ensures kept { IsKept parts.new }
+    ensures ok { OnOk result
+        (Does (held_of parts.old) (held_of parts.new) (Patch entity pool field value)) }
+    ensures reply { OnOk result
+        (reply_to (held_of parts.old) (Patch entity pool field value) ≡ Done) }
+    ensures err { OnErr result (AsBefore (held_of parts.old) (held_of parts.new)) }
+    ensures cause { IfErr result (λ refused. refused ≢ Refusal.OutOfMemory →
+        refusal_to (held_of parts.old) (Patch entity pool field value) ≡ Some refused) }
+{
+    if let Some(refused) = entry_refusal(parts, entity, pool) {
+        return Err(refused);
+    }
+    match row_of(parts, entity, pool) {
+        Some(row) => change_row(parts, entity, pool, with_field(row, field, value)),
+        None => Err(Refusal::Absent),
+    }
+}
+
+// The row with one field set, where it has the field.
+fn with_field(row: Row, field: u32, value: i64) -> Row
+    ensures { result ≡ with_field row field value }
+{
+    let mut f = row.f;
+    if (field as usize) < 4 {
+        f[field as usize] = value;
+    }
+    Row { f }
+}
+
+// Removes a row, where there is one, and says whether there was.
+pub fn remove<L: Listener, G: Ledger>(
+    parts: &mut Parts<L>,
+    entity: Entity,
+    pool: u32,
+    steps: &mut Steps<G>,
+) -> Result<u32, Refusal>
+    requires { IsKept parts.old }
+    ensures kept { IsKept parts.new }
+    ensures does { Does (held_of parts.old) (held_of parts.new) (Remove entity pool) }
+    ensures ok { IfOk result (λ count.
+        reply_to (held_of parts.old) (Remove entity pool) ≡ Number count) }
+    ensures err { IfErr result (λ refused.
+        reply_to (held_of parts.old) (Remove entity pool) ≡ Refused refused) }
+    ensures steps { steps.new ≤ steps.old + 1 }
+{
+    match entry_refusal(parts, entity, pool) {
+        Some(refused) => Err(refused),
+        None if drop_row(parts, entity, pool, steps) => Ok(1),
+        None => Ok(0),
+    }
+}
+
+// Removes a row that has to be there.
+pub fn erase<L: Listener, G: Ledger>(
+    parts: &mut Parts<L>,
+    entity: Entity,
+    pool: u32,
+    steps: &mut Steps<G>,
+) -> Result<(), Refusal>
+    requires { IsKept parts.old }
+    ensures kept { IsKept parts.new }
+    ensures does { Does (held_of parts.old) (held_of parts.new) (Erase entity pool) }
+    ensures ok { OnOk result (reply_to (held_of parts.old) (Erase entity pool) ≡ Done) }
+    ensures err { IfErr result (λ refused.
+        reply_to (held_of parts.old) (Erase entity pool) ≡ Refused refused) }
+    ensures steps { steps.new ≤ steps.old + 1 }
+{
+    match entry_refusal(parts, entity, pool) {
+        Some(refused) => Err(refused),
+        None if drop_row(parts, entity, pool, steps) => Ok(()),
+        None => Err(Refusal::Absent),
+    }
+}

@@ -1,0 +1,47 @@
+//! Entities made.
+
+ghost use Rattle.std.specs.Prelude.{◌≡◌, ◌≢◌, Some, IfOk, IfErr, OnOk, OnErr};
+ghost use Rattle.world_model.specs.declared.command.Command.TheVariants.{Create, Hint};
+ghost use Rattle.world_model.specs.declared.command.Reply.TheVariants.{Made};
+ghost use Rattle.registry.specs.Held.{Does, AsBefore, reply_to, refusal_to};
+ghost use Rattle.registry.specs.Layout.{held_of, IsKept};
+
+use super::Parts;
+use entity_id::Entity;
+use entity_slots::CreateRefused;
+use signal_sink::Listener;
+use world_model::Refusal;
+
+// Makes an identifier.
+pub fn create<L: Listener>(parts: &mut Parts<L>) -> Result<Entity, Refusal>
+    requires { IsKept parts.old }
+    ensures kept { IsKept parts.new }
+    ensures ok { OnOk result (Does (held_of parts.old) (held_of parts.new) Create) }
+    ensures reply { IfOk result (λ entity. reply_to (held_of parts.old) Create ≡ Made entity) }
+    ensures err { OnErr result (AsBefore (held_of parts.old) (held_of parts.new)) }
+    ensures cause { IfErr result (λ refused. refused ≢ Refusal.OutOfMemory →
+        refusal_to (held_of parts.old) Create ≡ Some refused) }
+{
+    match parts.slots.create() {
+        Ok(entity) => Ok(entity),
+        Err(CreateRefused::Full) => Err(Refusal::Full),
+        Err(CreateRefused::OutOfMemory) => Err(Refusal::OutOfMemory),
+    }
+}
+
+// Makes the identifier that is hinted at, where that is possible, and else another.
+pub fn create_hint<L: Listener>(parts: &mut Parts<L>, hint: Entity) -> Result<Entity, Refusal>
+    requires { IsKept parts.old }
+    ensures kept { IsKept parts.new }
+    ensures ok { OnOk result (Does (held_of parts.old) (held_of parts.new) (Hint hint)) }
+    ensures reply { IfOk result (λ entity. reply_to (held_of parts.old) (Hint hint) ≡ Made entity) }
+    ensures err { OnErr result (AsBefore (held_of parts.old) (held_of parts.new)) }
+    ensures cause { IfErr result (λ refused. refused ≢ Refusal.OutOfMemory →
+        refusal_to (held_of parts.old) (Hint hint) ≡ Some refused) }
+{
+    match parts.slots.create_hint(hint) {
+        Ok(entity) => Ok(entity),
+        Err(CreateRefused::Full) => Err(Refusal::Full),
+        Err(CreateRefused::OutOfMemory) => Err(Refusal::OutOfMemory),
+    }
+}

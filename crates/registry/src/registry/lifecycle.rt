@@ -1,0 +1,114 @@
+//! Registries made, and entities made and destroyed.
+
+ghost use Rattle.std.specs.Prelude.{◌≡◌, ◌≢◌, ◌+◌, ◌≤◌, [], length, Some, IsTrue, IfOk, IfErr, OnOk, OnErr};
+ghost use Rattle.std.specs.List.{AllByRecursion};
+ghost use Rattle.entity_id.specs.Identifiers.{is_profile};
+ghost use Rattle.world_model.specs.declared.command.Command.TheVariants.{Create, Hint, Destroy, Valid};
+ghost use Rattle.world_model.specs.declared.command.Reply.TheVariants.{Done, Made, Refused, Truth};
+ghost use Rattle.world_model.specs.Components.{IsDecl};
+ghost use Rattle.world_model.specs.Worlds.{IsLawful, component_limit, empty_world};
+ghost use Rattle.registry.specs.Held.{unheard, Does, AsBefore, reply_to, refusal_to};
+
+use super::Registry;
+use crate::parts::{creation, leaving, loading, making, saving};
+use entity_id::{Entity, OutOfMemory, Profile};
+use signal_sink::Listener;
+use sparse_set::Steps;
+use std::alloc::Global;
+use std::sync::ledger::Ledger;
+use world_model::{DeclList, Refusal, World};
+
+impl<L: Listener> Registry<L> {
+    /// A registry of these components, with no entity and with no listener, which keeps the
+    /// allocator: there will be at most `slot_limit` slots. `OutOfMemory` where there is no memory
+    /// for its pools. (EnTT: the constructor, and `registry.storage<T>()` for each component.)
+    pub fn new(
+        alloc: Global,
+        profile: Profile,
+        slot_limit: u32,
+        decls: DeclList,
+    ) -> Result<Registry<L>, OutOfMemory>
+        requires profile { IsTrue (is_profile profile) }
+        requires addressable { slot_limit ≤ profile.index_limit }
+        requires few { length decls ≤ component_limit }
+        requires decls { AllByRecursion IsDecl decls }
+        ensures { IfOk result (λ registry.
+            registry ≡ unheard slot_limit (empty_world profile decls)) }
+    {
+        let parts = making::new(alloc, profile, slot_limit, decls)?;
+        Ok(Registry { parts })
+    }
+
+    /// A registry of a lawful world that has no groups, within the slot limit: its components,
+    /// entities and rows, and no listener. It keeps the allocator, and not the world's tick.
+    /// `OutOfMemory` where there is no memory for them. (EnTT: `entt::snapshot_loader`, whose
+    /// registry has to be empty.)
+    pub fn load(alloc: Global, world: &World, slot_limit: u32) -> Result<Registry<L>, OutOfMemory>
+        requires lawful { IsLawful slot_limit world.now }
+        requires ungrouped { world.now.groups ≡ [] }
+        ensures { IfOk result (λ registry.
+            registry ≡ unheard slot_limit (record world.now { tick = 0 })) }
+    {
+        let parts = loading::load(alloc, world, slot_limit)?;
+        Ok(Registry { parts })
+    }
+
+    /// The world that it stands for, at a tick, rows in ascending index. `OutOfMemory` where there
+    /// is no memory for it. (EnTT: `entt::snapshot`.)
+    pub fn save(&self, tick: u64) -> Result<World, OutOfMemory>
+        ensures { IfOk result (λ world. world ≡ record self.now.world { tick = tick }) }
+    {
+        saving::save(&self.parts, tick)
+    }
+
+    /// Makes an identifier: the index that was released last with its next version, or a new index
+    /// with version 0 where none is free. `Full` exactly where none is free and the slots are as
+    /// many as may be, and `OutOfMemory`. Takes memory. (EnTT: `registry.create()`.)
+    pub fn create(&mut self) -> Result<Entity, Refusal>
+        ensures ok { OnOk result (Does self.old self.new Create) }
+        ensures reply { IfOk result (λ entity. reply_to self.old Create ≡ Made entity) }
+        ensures err { OnErr result (AsBefore self.old self.new) }
+        ensures cause { IfErr result (λ refused. refused ≢ Refusal.OutOfMemory →
+            refusal_to self.old Create ≡ Some refused) }
+    {
+        creation::create(&mut self.parts)
+    }
+
+    /// Makes the identifier that is hinted at, where its index is below the slot limit and not live,
+    /// and its version is below the version limit; else as [`Registry::create`], and refused as that.
+    /// An index past the last slot makes the indices before it free, with version 0, and the
+    /// greatest is reused first. `OutOfMemory` too. Takes memory. (EnTT: `registry.create(hint)`.)
+    pub fn create_hint(&mut self, hint: Entity) -> Result<Entity, Refusal>
+        ensures ok { OnOk result (Does self.old self.new (Hint hint)) }
+        ensures reply { IfOk result (λ entity. reply_to self.old (Hint hint) ≡ Made entity) }
+        ensures err { OnErr result (AsBefore self.old self.new) }
+        ensures cause { IfErr result (λ refused. refused ≢ Refusal.OutOfMemory →
+            refusal_to self.old (Hint hint) ≡ Some refused) }
+    {
+        creation::create_hint(&mut self.parts, hint)
+    }
+
+    /// Takes an entity out of every pool, the last one first, and its identifier out of use. Each
+    /// listener of a pool that it leaves hears of its row's destruction once. `Dead` exactly where it
+    /// is not live. At most one step for each pool. No memory. (EnTT: `registry.destroy(entity)`.)
+    pub fn destroy<G: Ledger>(
+        &mut self,
+        entity: Entity,
+        steps: &mut Steps<G>,
+    ) -> Result<(), Refusal>
+        ensures does { Does self.old self.new (Destroy entity) }
+        ensures ok { OnOk result (reply_to self.old (Destroy entity) ≡ Done) }
+        ensures err { IfErr result (λ refused.
+            reply_to self.old (Destroy entity) ≡ Refused refused) }
+        ensures steps { steps.new ≤ steps.old + length self.old.world.decls }
+    {
+        leaving::destroy(&mut self.parts, entity, steps)
+    }
+
+    /// Whether an identifier is live. No memory. (EnTT: `registry.valid(entity)`.)
+    pub fn valid(&self, entity: Entity) -> bool
+        ensures { reply_to self.now (Valid entity) ≡ Truth result }
+    {
+        self.parts.slots.valid(entity)
+    }
+}
