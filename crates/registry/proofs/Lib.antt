@@ -12,4 +12,5 @@ pub mod PoolLemmas
 pub mod QueryLemmas
 pub mod ResultLemmas
 pub mod RunLemmas
+pub mod TestLemmas
 pub mod ViewLemmas

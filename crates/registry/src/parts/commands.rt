@@ -19,10 +19,10 @@ pub fn run<L: Listener, G: Ledger>(
     command: &Command,
     steps: &mut Steps<G>,
 ) -> Reply
-    requires kept { IsKept parts.old }
+    requires consistent { IsKept parts.old }
     requires allowed { IsAllowed (world_of parts.old) command.now }
     requires served { IsTrue (is_served command.now) }
-    ensures kept { IsKept parts.new }
+    ensures consistent { IsKept parts.new }
     ensures run { IsRun (held_of parts.old) (held_of parts.new) command.now result }
 {
     match command {
@@ -55,7 +55,7 @@ pub fn run<L: Listener, G: Ledger>(
 
 // Carries out a command that changes nothing.
 fn ask<L: Listener>(parts: &Parts<L>, command: &Command) -> Reply
-    requires kept { IsKept parts.now }
+    requires consistent { IsKept parts.now }
     requires allowed { IsAllowed (world_of parts.now) command.now }
     requires question { IsTrue (is_question command.now) }
     ensures { IsRun (held_of parts.now) (held_of parts.now) command.now result }

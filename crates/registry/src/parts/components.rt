@@ -25,9 +25,9 @@ pub fn emplace<L: Listener, G: Ledger>(
     row: Row,
     steps: &mut Steps<G>,
 ) -> Result<(), Refusal>
-    requires kept { IsKept parts.old }
+    requires consistent { IsKept parts.old }
     requires allowed { IsAllowed (world_of parts.old) (Emplace entity pool row) }
-    ensures kept { IsKept parts.new }
+    ensures consistent { IsKept parts.new }
     ensures ok { OnOk result
         (Does (held_of parts.old) (held_of parts.new) (Emplace entity pool row)) }
     ensures reply { OnOk result (reply_to (held_of parts.old) (Emplace entity pool row) ≡ Done) }
@@ -49,9 +49,9 @@ pub fn replace<L: Listener>(
     pool: u32,
     row: Row,
 ) -> Result<(), Refusal>
-    requires kept { IsKept parts.old }
+    requires consistent { IsKept parts.old }
     requires allowed { IsAllowed (world_of parts.old) (Replace entity pool row) }
-    ensures kept { IsKept parts.new }
+    ensures consistent { IsKept parts.new }
     ensures ok { OnOk result
         (Does (held_of parts.old) (held_of parts.new) (Replace entity pool row)) }
     ensures reply { OnOk result (reply_to (held_of parts.old) (Replace entity pool row) ≡ Done) }
@@ -73,9 +73,9 @@ pub fn emplace_or_replace<L: Listener, G: Ledger>(
     row: Row,
     steps: &mut Steps<G>,
 ) -> Result<(), Refusal>
-    requires kept { IsKept parts.old }
+    requires consistent { IsKept parts.old }
     requires allowed { IsAllowed (world_of parts.old) (EmplaceOrReplace entity pool row) }
-    ensures kept { IsKept parts.new }
+    ensures consistent { IsKept parts.new }
     ensures ok { OnOk result
         (Does (held_of parts.old) (held_of parts.new) (EmplaceOrReplace entity pool row)) }
     ensures reply { OnOk result
@@ -100,9 +100,9 @@ pub fn patch<L: Listener>(
     field: u32,
     value: i64,
 ) -> Result<(), Refusal>
-    requires kept { IsKept parts.old }
+    requires consistent { IsKept parts.old }
     requires allowed { IsAllowed (world_of parts.old) (Patch entity pool field value) }
-    ensures kept { IsKept parts.new }
+    ensures consistent { IsKept parts.new }
     ensures ok { OnOk result
         (Does (held_of parts.old) (held_of parts.new) (Patch entity pool field value)) }
     ensures reply { OnOk result
@@ -139,7 +139,7 @@ pub fn remove<L: Listener, G: Ledger>(
     steps: &mut Steps<G>,
 ) -> Result<u32, Refusal>
     requires { IsKept parts.old }
-    ensures kept { IsKept parts.new }
+    ensures consistent { IsKept parts.new }
     ensures does { Does (held_of parts.old) (held_of parts.new) (Remove entity pool) }
     ensures ok { IfOk result (λ count.
         reply_to (held_of parts.old) (Remove entity pool) ≡ Number count) }
@@ -162,7 +162,7 @@ pub fn erase<L: Listener, G: Ledger>(
     steps: &mut Steps<G>,
 ) -> Result<(), Refusal>
     requires { IsKept parts.old }
-    ensures kept { IsKept parts.new }
+    ensures consistent { IsKept parts.new }
     ensures does { Does (held_of parts.old) (held_of parts.new) (Erase entity pool) }
     ensures ok { OnOk result (reply_to (held_of parts.old) (Erase entity pool) ≡ Done) }
     ensures err { IfErr result (λ refused.

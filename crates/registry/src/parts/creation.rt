@@ -15,7 +15,7 @@ use world_model::Refusal;
 // Makes an identifier.
 pub fn create<L: Listener>(parts: &mut Parts<L>) -> Result<Entity, Refusal>
     requires { IsKept parts.old }
-    ensures kept { IsKept parts.new }
+    ensures consistent { IsKept parts.new }
     ensures ok { OnOk result (Does (held_of parts.old) (held_of parts.new) Create) }
     ensures reply { IfOk result (λ entity. reply_to (held_of parts.old) Create ≡ Made entity) }
     ensures err { OnErr result (AsBefore (held_of parts.old) (held_of parts.new)) }
@@ -32,7 +32,7 @@ pub fn create<L: Listener>(parts: &mut Parts<L>) -> Result<Entity, Refusal>
 // Makes the identifier that is hinted at, where that is possible, and else another.
 pub fn create_hint<L: Listener>(parts: &mut Parts<L>, hint: Entity) -> Result<Entity, Refusal>
     requires { IsKept parts.old }
-    ensures kept { IsKept parts.new }
+    ensures consistent { IsKept parts.new }
     ensures ok { OnOk result (Does (held_of parts.old) (held_of parts.new) (Hint hint)) }
     ensures reply { IfOk result (λ entity. reply_to (held_of parts.old) (Hint hint) ≡ Made entity) }
     ensures err { OnErr result (AsBefore (held_of parts.old) (held_of parts.new)) }

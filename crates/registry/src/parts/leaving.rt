@@ -24,7 +24,7 @@ pub fn destroy<L: Listener, G: Ledger>(
     steps: &mut Steps<G>,
 ) -> Result<(), Refusal>
     requires { IsKept parts.old }
-    ensures kept { IsKept parts.new }
+    ensures consistent { IsKept parts.new }
     ensures does { Does (held_of parts.old) (held_of parts.new) (Destroy entity) }
     ensures ok { OnOk result (reply_to (held_of parts.old) (Destroy entity) ≡ Done) }
     ensures err { IfErr result (λ refused.

@@ -18,7 +18,7 @@ pub fn connect<L: Listener>(
     listener: L,
 ) -> Result<u32, ConnectRefused<L>>
     requires { IsKept parts.old }
-    ensures kept { IsKept parts.new }
+    ensures consistent { IsKept parts.new }
     ensures rewired { IsRewired (held_of parts.old) (held_of parts.new) kind pool }
     ensures number { IfOk result (λ number.
         number ≡ length (listeners_at (held_of parts.old) kind pool)) }
@@ -144,7 +144,7 @@ pub fn disconnect<L: Listener>(
     number: u32,
 ) -> Result<L, Refusal>
     requires { IsKept parts.old }
-    ensures kept { IsKept parts.new }
+    ensures consistent { IsKept parts.new }
     ensures rewired { IsRewired (held_of parts.old) (held_of parts.new) kind pool }
     ensures listener { IfOk result (λ listener.
         slice_get (listeners_at (held_of parts.old) kind pool) number

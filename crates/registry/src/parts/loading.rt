@@ -28,7 +28,7 @@ pub fn load<L: Listener>(
 ) -> Result<Parts<L>, OutOfMemory>
     requires lawful { IsLawful slot_limit world.now }
     requires ungrouped { world.now.groups ≡ [] }
-    ensures kept { IfOk result (λ parts. IsKept parts) }
+    ensures consistent { IfOk result (λ parts. IsKept parts) }
     ensures held { IfOk result (λ parts.
         held_of parts ≡ unheard slot_limit (record world.now { tick = 0 })) }
 {

@@ -27,7 +27,7 @@ pub fn new<L: Listener>(
     requires addressable { slot_limit ≤ profile.index_limit }
     requires few { length decls ≤ component_limit }
     requires decls { AllByRecursion IsDecl decls }
-    ensures kept { IfOk result (λ parts. IsKept parts) }
+    ensures consistent { IfOk result (λ parts. IsKept parts) }
     ensures held { IfOk result (λ parts.
         held_of parts ≡ unheard slot_limit (empty_world profile decls)) }
 {

@@ -79,7 +79,7 @@ pub fn has_row<L: Listener>(parts: &Parts<L>, entity: Entity, pool: u32) -> bool
 
 // The row of an identifier in a pool, where it has one.
 pub fn row_of<L: Listener>(parts: &Parts<L>, entity: Entity, pool: u32) -> Option<Row>
-    requires kept { IsKept parts.now }
+    requires consistent { IsKept parts.now }
     requires declared { pool < length parts.now.decls }
     ensures { result ≡ entries.get (pool_at (world_of parts.now) pool) entity }
 {

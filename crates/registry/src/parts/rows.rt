@@ -25,7 +25,7 @@ pub fn put_row<L: Listener, G: Ledger>(
     row: Row,
     steps: &mut Steps<G>,
 ) -> Result<(), Refusal>
-    requires kept { IsKept parts.old }
+    requires consistent { IsKept parts.old }
     requires declared { pool < length parts.old.decls }
     ensures ok { OnOk result
         (Gives parts.old parts.new (sets event.Construct (world_of parts.old) entity pool row)) }
@@ -58,7 +58,7 @@ pub fn change_row<L: Listener>(
     pool: u32,
     row: Row,
 ) -> Result<(), Refusal>
-    requires kept { IsKept parts.old }
+    requires consistent { IsKept parts.old }
     requires declared { pool < length parts.old.decls }
     ensures ok { OnOk result
         (Gives parts.old parts.new (sets event.Update (world_of parts.old) entity pool row)) }
@@ -83,7 +83,7 @@ pub fn drop_row<L: Listener, G: Ledger>(
     pool: u32,
     steps: &mut Steps<G>,
 ) -> bool
-    requires kept { IsKept parts.old }
+    requires consistent { IsKept parts.old }
     requires declared { pool < length parts.old.decls }
     ensures was { result ≡ has_row (world_of parts.old) pool entity }
     ensures gone { OnTrue result

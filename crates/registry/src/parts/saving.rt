@@ -4,6 +4,7 @@ ghost use Rattle.std.specs.Prelude.{◌≡◌, ◌≤◌, List, length, IfOk, On
 ghost use Rattle.std.specs.List.{zip};
 ghost use Rattle.std.specs.List.Sorted.{IsPermutation};
 ghost use Rattle.entity_id.specs.FiniteMap as entries;
+ghost use Rattle.world_model.specs.Worlds.{IsLawful};
 ghost use Rattle.registry.specs.Layout.{maps_of, world_of, IsKept};
 
 use super::Parts;
@@ -18,7 +19,8 @@ use world_model::{FreeList, GroupList, PoolList, Row, Rows, Slot, SlotList, Worl
 // The world that the parts stand for, at a tick, rows in ascending index.
 pub fn save<L: Listener>(parts: &Parts<L>, tick: u64) -> Result<World, OutOfMemory>
     requires { IsKept parts.now }
-    ensures { IfOk result (λ world. world ≡ record (world_of parts.now) { tick = tick }) }
+    ensures world { IfOk result (λ world. world ≡ record (world_of parts.now) { tick = tick }) }
+    ensures lawful { IfOk result (λ world. IsLawful parts.now.slots.limit world) }
 {
     let alloc = *parts.pools.allocator();
     let decls = copy_decls(alloc, &parts.decls)?;

@@ -23,7 +23,7 @@ pub fn view<L: Listener>(
     all: &Pools,
     without: &Pools,
 ) -> Result<Entities, Refusal>
-    requires kept { IsKept parts.now }
+    requires consistent { IsKept parts.now }
     requires some { 0 < length all.now }
     ensures ok { IfOk result (λ list.
         reply_to (held_of parts.now) (View all.now without.now) ≡ Listed list) }
@@ -57,7 +57,7 @@ fn list_matches<L: Listener>(
     all: &[u32],
     without: &[u32],
 ) -> Result<Vec<Entity>, OutOfMemory>
-    requires kept { IsKept parts.now }
+    requires consistent { IsKept parts.now }
     requires some { 0 < length all.now }
     requires declared { IsTrue (are_declared (length parts.now.decls) all.now) }
     ensures { IfOk result (λ list.

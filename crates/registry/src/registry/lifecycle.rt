@@ -53,10 +53,13 @@ impl<L: Listener> Registry<L> {
         Ok(Registry { parts })
     }
 
-    /// The world that it stands for, at a tick, rows in ascending index. `OutOfMemory` where there
-    /// is no memory for it. (EnTT: `entt::snapshot`.)
+    /// The world that it stands for, at a tick, rows in ascending index. The world is a lawful one
+    /// within the slot limit, and has no groups, so [`Registry::load`] takes it. `OutOfMemory` where
+    /// there is no memory for it. (EnTT: `entt::snapshot`.)
     pub fn save(&self, tick: u64) -> Result<World, OutOfMemory>
-        ensures { IfOk result (λ world. world ≡ record self.now.world { tick = tick }) }
+        ensures world { IfOk result (λ world. world ≡ record self.now.world { tick = tick }) }
+        ensures lawful { IfOk result (λ world. IsLawful self.now.limit world) }
+        ensures ungrouped { IfOk result (λ world. world.groups ≡ []) }
     {
         saving::save(&self.parts, tick)
     }

@@ -11,50 +11,50 @@ use Rattle.registry.proofs.parts.components.emplace_or_replace.Goals as goal
 pub returns-in-Some-clause-err : goal.returns-in-Some-clause-err
 returns-in-Some-clause-err g c = same (held_of c.args.parts.now)
 
-pub returns-in-None-clause-kept : goal.returns-in-None-clause-kept
-returns-in-None-clause-kept g c =
+pub returns-in-None-clause-consistent : goal.returns-in-None-clause-consistent
+returns-in-None-clause-consistent g c =
     let old = c.args.parts.now in
     let change = subst (λ b. OnOk c.change_row.result (Gives old c.change_row.new.parts (sets (cond b event.Update event.Construct) (world_of old) c.args.entity c.args.pool c.args.row))) c.if-has_row.ensures c.change_row.ensures.ok in
-    (entry_finished old c.change_row.new.parts (EmplaceOrReplace c.args.entity c.args.pool c.args.row) c.change_row.result None c.requires.kept c.requires.allowed (c.in-None.ensures.cause None) (all_ok c.change_row.result refl) change c.change_row.ensures.err).kept
+    (entry_finished old c.change_row.new.parts (EmplaceOrReplace c.args.entity c.args.pool c.args.row) c.change_row.result None c.requires.consistent c.requires.allowed (c.in-None.ensures.cause None) (all_ok c.change_row.result refl) change c.change_row.ensures.err).kept
 
 pub returns-in-None-clause-ok : goal.returns-in-None-clause-ok
 returns-in-None-clause-ok g c =
     let old = c.args.parts.now in
     let change = subst (λ b. OnOk c.change_row.result (Gives old c.change_row.new.parts (sets (cond b event.Update event.Construct) (world_of old) c.args.entity c.args.pool c.args.row))) c.if-has_row.ensures c.change_row.ensures.ok in
-    (entry_finished old c.change_row.new.parts (EmplaceOrReplace c.args.entity c.args.pool c.args.row) c.change_row.result None c.requires.kept c.requires.allowed (c.in-None.ensures.cause None) (all_ok c.change_row.result refl) change c.change_row.ensures.err).does
+    (entry_finished old c.change_row.new.parts (EmplaceOrReplace c.args.entity c.args.pool c.args.row) c.change_row.result None c.requires.consistent c.requires.allowed (c.in-None.ensures.cause None) (all_ok c.change_row.result refl) change c.change_row.ensures.err).does
 
 pub returns-in-None-clause-reply : goal.returns-in-None-clause-reply
 returns-in-None-clause-reply g c =
     let old = c.args.parts.now in
     let change = subst (λ b. OnOk c.change_row.result (Gives old c.change_row.new.parts (sets (cond b event.Update event.Construct) (world_of old) c.args.entity c.args.pool c.args.row))) c.if-has_row.ensures c.change_row.ensures.ok in
-    (entry_finished old c.change_row.new.parts (EmplaceOrReplace c.args.entity c.args.pool c.args.row) c.change_row.result None c.requires.kept c.requires.allowed (c.in-None.ensures.cause None) (all_ok c.change_row.result refl) change c.change_row.ensures.err).reply
+    (entry_finished old c.change_row.new.parts (EmplaceOrReplace c.args.entity c.args.pool c.args.row) c.change_row.result None c.requires.consistent c.requires.allowed (c.in-None.ensures.cause None) (all_ok c.change_row.result refl) change c.change_row.ensures.err).reply
 
 pub returns-in-None-clause-err : goal.returns-in-None-clause-err
 returns-in-None-clause-err g c =
     let old = c.args.parts.now in
     let change = subst (λ b. OnOk c.change_row.result (Gives old c.change_row.new.parts (sets (cond b event.Update event.Construct) (world_of old) c.args.entity c.args.pool c.args.row))) c.if-has_row.ensures c.change_row.ensures.ok in
-    (entry_finished old c.change_row.new.parts (EmplaceOrReplace c.args.entity c.args.pool c.args.row) c.change_row.result None c.requires.kept c.requires.allowed (c.in-None.ensures.cause None) (all_ok c.change_row.result refl) change c.change_row.ensures.err).as_before
+    (entry_finished old c.change_row.new.parts (EmplaceOrReplace c.args.entity c.args.pool c.args.row) c.change_row.result None c.requires.consistent c.requires.allowed (c.in-None.ensures.cause None) (all_ok c.change_row.result refl) change c.change_row.ensures.err).as_before
 
-pub returns-in-None-2-clause-kept : goal.returns-in-None-2-clause-kept
-returns-in-None-2-clause-kept g c =
+pub returns-in-None-2-clause-consistent : goal.returns-in-None-2-clause-consistent
+returns-in-None-2-clause-consistent g c =
     let old = c.args.parts.now in
     let change = subst (λ b. OnOk c.put_row.result (Gives old c.put_row.new.parts (sets (cond b event.Update event.Construct) (world_of old) c.args.entity c.args.pool c.args.row))) c.if-has_row.ensures c.put_row.ensures.ok in
-    (entry_finished old c.put_row.new.parts (EmplaceOrReplace c.args.entity c.args.pool c.args.row) c.put_row.result None c.requires.kept c.requires.allowed (c.in-None.ensures.cause None) (all_ok c.put_row.result refl) change c.put_row.ensures.err).kept
+    (entry_finished old c.put_row.new.parts (EmplaceOrReplace c.args.entity c.args.pool c.args.row) c.put_row.result None c.requires.consistent c.requires.allowed (c.in-None.ensures.cause None) (all_ok c.put_row.result refl) change c.put_row.ensures.err).kept
 
 pub returns-in-None-2-clause-ok : goal.returns-in-None-2-clause-ok
 returns-in-None-2-clause-ok g c =
     let old = c.args.parts.now in
     let change = subst (λ b. OnOk c.put_row.result (Gives old c.put_row.new.parts (sets (cond b event.Update event.Construct) (world_of old) c.args.entity c.args.pool c.args.row))) c.if-has_row.ensures c.put_row.ensures.ok in
-    (entry_finished old c.put_row.new.parts (EmplaceOrReplace c.args.entity c.args.pool c.args.row) c.put_row.result None c.requires.kept c.requires.allowed (c.in-None.ensures.cause None) (all_ok c.put_row.result refl) change c.put_row.ensures.err).does
+    (entry_finished old c.put_row.new.parts (EmplaceOrReplace c.args.entity c.args.pool c.args.row) c.put_row.result None c.requires.consistent c.requires.allowed (c.in-None.ensures.cause None) (all_ok c.put_row.result refl) change c.put_row.ensures.err).does
 
 pub returns-in-None-2-clause-reply : goal.returns-in-None-2-clause-reply
 returns-in-None-2-clause-reply g c =
     let old = c.args.parts.now in
     let change = subst (λ b. OnOk c.put_row.result (Gives old c.put_row.new.parts (sets (cond b event.Update event.Construct) (world_of old) c.args.entity c.args.pool c.args.row))) c.if-has_row.ensures c.put_row.ensures.ok in
-    (entry_finished old c.put_row.new.parts (EmplaceOrReplace c.args.entity c.args.pool c.args.row) c.put_row.result None c.requires.kept c.requires.allowed (c.in-None.ensures.cause None) (all_ok c.put_row.result refl) change c.put_row.ensures.err).reply
+    (entry_finished old c.put_row.new.parts (EmplaceOrReplace c.args.entity c.args.pool c.args.row) c.put_row.result None c.requires.consistent c.requires.allowed (c.in-None.ensures.cause None) (all_ok c.put_row.result refl) change c.put_row.ensures.err).reply
 
 pub returns-in-None-2-clause-err : goal.returns-in-None-2-clause-err
 returns-in-None-2-clause-err g c =
     let old = c.args.parts.now in
     let change = subst (λ b. OnOk c.put_row.result (Gives old c.put_row.new.parts (sets (cond b event.Update event.Construct) (world_of old) c.args.entity c.args.pool c.args.row))) c.if-has_row.ensures c.put_row.ensures.ok in
-    (entry_finished old c.put_row.new.parts (EmplaceOrReplace c.args.entity c.args.pool c.args.row) c.put_row.result None c.requires.kept c.requires.allowed (c.in-None.ensures.cause None) (all_ok c.put_row.result refl) change c.put_row.ensures.err).as_before
+    (entry_finished old c.put_row.new.parts (EmplaceOrReplace c.args.entity c.args.pool c.args.row) c.put_row.result None c.requires.consistent c.requires.allowed (c.in-None.ensures.cause None) (all_ok c.put_row.result refl) change c.put_row.ensures.err).as_before

@@ -10,8 +10,8 @@ use Rattle.registry.proofs.parts.components.erase.Goals as goal
 pub returns-in-Some-clause-does : goal.returns-in-Some-clause-does
 returns-in-Some-clause-does g c = (refused (held_of c.args.parts.now) (Erase c.args.entity c.args.pool) c.in-Some.refused (c.in-Some.ensures.cause _)).0
 
-pub returns-in-None-clause-kept : goal.returns-in-None-clause-kept
-returns-in-None-clause-kept g c =
+pub returns-in-None-clause-consistent : goal.returns-in-None-clause-consistent
+returns-in-None-clause-consistent g c =
     let fine : refusal_to (held_of c.args.parts.now) (Erase c.args.entity c.args.pool) ≡ None = c.in-None.ensures.cause _ ∙ ap (λ b. refuse (not b) refusal.Absent) (sym c.if-drop_row.ensures.was) in
     (did c.args.parts.now c.drop_row.new.parts (Erase c.args.entity c.args.pool) c.requires tt fine c.if-drop_row.ensures.gone).0
 

@@ -7,8 +7,8 @@ use Rattle.registry.proofs.parts.components.remove.Goals as goal
 pub returns-in-Some-clause-does : goal.returns-in-Some-clause-does
 returns-in-Some-clause-does g c = (refused (held_of c.args.parts.now) (Remove c.args.entity c.args.pool) c.in-Some.refused (c.in-Some.ensures.cause None)).0
 
-pub returns-in-None-clause-kept : goal.returns-in-None-clause-kept
-returns-in-None-clause-kept g c =
+pub returns-in-None-clause-consistent : goal.returns-in-None-clause-consistent
+returns-in-None-clause-consistent g c =
     (did c.args.parts.now c.drop_row.new.parts (Remove c.args.entity c.args.pool) c.requires tt (c.in-None.ensures.cause None) (removed _ _ _ _ (sym c.if-drop_row.ensures.was) c.if-drop_row.ensures.gone)).0
 
 pub returns-in-None-clause-does : goal.returns-in-None-clause-does

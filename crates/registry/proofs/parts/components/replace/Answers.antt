@@ -7,18 +7,18 @@ use Rattle.registry.proofs.parts.components.replace.Goals as goal
 pub returns-in-Some-clause-err : goal.returns-in-Some-clause-err
 returns-in-Some-clause-err g c = same (held_of c.args.parts.now)
 
-pub returns-in-None-clause-kept : goal.returns-in-None-clause-kept
-returns-in-None-clause-kept g c =
-    (entry_finished c.args.parts.now c.change_row.new.parts (Replace c.args.entity c.args.pool c.args.row) c.change_row.result (when_absent (world_of c.args.parts.now) c.args.pool c.args.entity) c.requires.kept c.requires.allowed (c.in-None.ensures.cause _) c.change_row.ensures.present c.change_row.ensures.ok c.change_row.ensures.err).kept
+pub returns-in-None-clause-consistent : goal.returns-in-None-clause-consistent
+returns-in-None-clause-consistent g c =
+    (entry_finished c.args.parts.now c.change_row.new.parts (Replace c.args.entity c.args.pool c.args.row) c.change_row.result (when_absent (world_of c.args.parts.now) c.args.pool c.args.entity) c.requires.consistent c.requires.allowed (c.in-None.ensures.cause _) c.change_row.ensures.present c.change_row.ensures.ok c.change_row.ensures.err).kept
 
 pub returns-in-None-clause-ok : goal.returns-in-None-clause-ok
 returns-in-None-clause-ok g c =
-    (entry_finished c.args.parts.now c.change_row.new.parts (Replace c.args.entity c.args.pool c.args.row) c.change_row.result (when_absent (world_of c.args.parts.now) c.args.pool c.args.entity) c.requires.kept c.requires.allowed (c.in-None.ensures.cause _) c.change_row.ensures.present c.change_row.ensures.ok c.change_row.ensures.err).does
+    (entry_finished c.args.parts.now c.change_row.new.parts (Replace c.args.entity c.args.pool c.args.row) c.change_row.result (when_absent (world_of c.args.parts.now) c.args.pool c.args.entity) c.requires.consistent c.requires.allowed (c.in-None.ensures.cause _) c.change_row.ensures.present c.change_row.ensures.ok c.change_row.ensures.err).does
 
 pub returns-in-None-clause-reply : goal.returns-in-None-clause-reply
 returns-in-None-clause-reply g c =
-    (entry_finished c.args.parts.now c.change_row.new.parts (Replace c.args.entity c.args.pool c.args.row) c.change_row.result (when_absent (world_of c.args.parts.now) c.args.pool c.args.entity) c.requires.kept c.requires.allowed (c.in-None.ensures.cause _) c.change_row.ensures.present c.change_row.ensures.ok c.change_row.ensures.err).reply
+    (entry_finished c.args.parts.now c.change_row.new.parts (Replace c.args.entity c.args.pool c.args.row) c.change_row.result (when_absent (world_of c.args.parts.now) c.args.pool c.args.entity) c.requires.consistent c.requires.allowed (c.in-None.ensures.cause _) c.change_row.ensures.present c.change_row.ensures.ok c.change_row.ensures.err).reply
 
 pub returns-in-None-clause-err : goal.returns-in-None-clause-err
 returns-in-None-clause-err g c =
-    (entry_finished c.args.parts.now c.change_row.new.parts (Replace c.args.entity c.args.pool c.args.row) c.change_row.result (when_absent (world_of c.args.parts.now) c.args.pool c.args.entity) c.requires.kept c.requires.allowed (c.in-None.ensures.cause _) c.change_row.ensures.present c.change_row.ensures.ok c.change_row.ensures.err).as_before
+    (entry_finished c.args.parts.now c.change_row.new.parts (Replace c.args.entity c.args.pool c.args.row) c.change_row.result (when_absent (world_of c.args.parts.now) c.args.pool c.args.entity) c.requires.consistent c.requires.allowed (c.in-None.ensures.cause _) c.change_row.ensures.present c.change_row.ensures.ok c.change_row.ensures.err).as_before

@@ -7,8 +7,8 @@ use Rattle.registry.specs.Layout.{held_of}
 use Rattle.registry.proofs.DoneLemmas.{did, stayed, with_slots, slots_changed}
 use Rattle.registry.proofs.parts.creation.create.Goals as goal
 
-pub returns-in-Ok-clause-kept : goal.returns-in-Ok-clause-kept
-returns-in-Ok-clause-kept g c =
+pub returns-in-Ok-clause-consistent : goal.returns-in-Ok-clause-consistent
+returns-in-Ok-clause-consistent g c =
     let old = c.args.parts.now in
     let passes : refusal_to (held_of old) Create ≡ None = ap (λ b. refuse b refusal.Full) c.in-Ok.ensures.room in
     (did old (with_slots old c.create.new.self) Create c.requires tt passes (slots_changed old c.create.new.self _ _ c.requires c.in-Ok.ensures.lists)).0

@@ -9,8 +9,8 @@ use Rattle.registry.proofs.DoneLemmas.{did, stayed, with_slots, slots_changed}
 use Rattle.registry.proofs.HintLemmas.{hint_refusal}
 use Rattle.registry.proofs.parts.creation.create_hint.Goals as goal
 
-pub returns-in-Ok-clause-kept : goal.returns-in-Ok-clause-kept
-returns-in-Ok-clause-kept g c =
+pub returns-in-Ok-clause-consistent : goal.returns-in-Ok-clause-consistent
+returns-in-Ok-clause-consistent g c =
     let old = c.args.parts.now in
     let passes : refusal_to (held_of old) (Hint c.args.hint) ≡ None = hint_refusal old.slots.limit (world_of old) c.args.hint ∙ ap (λ b. refuse b refusal.Full) c.in-Ok.ensures.room in
     (did old (with_slots old c.create_hint.new.self) (Hint c.args.hint) c.requires tt passes (slots_changed old c.create_hint.new.self _ _ c.requires c.in-Ok.ensures.lists)).0

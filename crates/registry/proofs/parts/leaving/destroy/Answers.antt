@@ -14,8 +14,8 @@ pub returns-then-not-valid-clause-does : goal.returns-then-not-valid-clause-does
 returns-then-not-valid-clause-does g c =
     (refused (held_of c.args.parts.now) (Destroy c.args.entity) refusal.Dead (ap (λ b. refuse (not b) refusal.Dead) (sym c.if-not-valid.ensures))).0
 
-pub returns-clause-kept : goal.returns-clause-kept
-returns-clause-kept g c =
+pub returns-clause-consistent : goal.returns-clause-consistent
+returns-clause-consistent g c =
     let old = c.args.parts.now in
     let live : is_live old.slots.slots c.args.entity ≡ true = sym c.if-not-valid.ensures in
     let fine : refusal_to (held_of old) (Destroy c.args.entity) ≡ None = ap (λ b. refuse (not b) refusal.Dead) live in

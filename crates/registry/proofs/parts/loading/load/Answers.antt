@@ -11,8 +11,8 @@ load_pools-requires g c =
     let world = c.args.world.now in
     subst (AllByRecursion entries.IsAscending) (sym c.as_slice-3.ensures) (pools_ascend world.profile world.slots world.decls world.pools c.requires.lawful.pools)
 
-pub returns-clause-kept : goal.returns-clause-kept
-returns-clause-kept g c =
+pub returns-clause-consistent : goal.returns-clause-consistent
+returns-clause-consistent g c =
     if_ok c.unheard_parts.result c.unheard_parts.ensures (λ parts made. (fresh_load parts c.args.slot_limit c.args.world.now c.in_ok-decls.decls c.in_ok-slots.slots c.as_slice.result.now c.as_slice-2.result.now c.in_ok-pools.pools.items c.as_slice-3.result.now made
     c.in_ok-decls.ensures c.in_ok-slots.ensures c.as_slice.ensures c.as_slice-2.ensures c.in_ok-pools.ensures c.as_slice-3.ensures c.requires.ungrouped c.requires.lawful).0)
 

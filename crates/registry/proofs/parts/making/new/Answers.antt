@@ -5,8 +5,8 @@ use Rattle.registry.proofs.FreshLemmas.{fresh_new}
 use Rattle.registry.proofs.ResultLemmas.{if_ok}
 use Rattle.registry.proofs.parts.making.new.Goals as goal
 
-pub returns-clause-kept : goal.returns-clause-kept
-returns-clause-kept g c =
+pub returns-clause-consistent : goal.returns-clause-consistent
+returns-clause-consistent g c =
     let a = c.args in
     let lawful = empty_lawful a.slot_limit a.profile a.decls c.requires.profile c.requires.addressable c.requires.few c.requires.decls in
     if_ok c.unheard_parts.result c.unheard_parts.ensures (λ parts made. (fresh_new parts a.profile a.slot_limit a.decls c.new-slots.result c.in_ok-pools.pools.items made c.new-slots.ensures (c.in_ok-pools.ensures ∙ ap (λ (decls : List Decl). replicate (length decls) []) c.as_slice.ensures) lawful).0)

@@ -6,7 +6,7 @@ use Rattle.registry.proofs.parts.rows.change_row.Goals as goal
 pub returns-clause-ok : goal.returns-clause-ok
 returns-clause-ok g c =
     let old = c.args.parts.now in
-    let h = c.requires.kept in
+    let h = c.requires.consistent in
     let at = c.args.pool in
     let low = c.requires.declared in
     both_ok c.change.result c.change.ensures.map c.change.ensures.heard (λ map heard. row_set old at c.index_mut.result.now c.change.new.pool (read_at old.pools.items (length old.decls) at _ h.pool_each low c.index_mut.ensures.value)
@@ -16,7 +16,7 @@ returns-clause-ok g c =
 pub returns-clause-err : goal.returns-clause-err
 returns-clause-err g c =
     let old = c.args.parts.now in
-    let h = c.requires.kept in
+    let h = c.requires.consistent in
     let at = c.args.pool in
     let low = c.requires.declared in
     both_err c.change.result c.change.ensures.err c.change.ensures.heard_err (λ same quiet. not_set old at c.index_mut.result.now c.change.new.pool (read_at old.pools.items (length old.decls) at _ h.pool_each low c.index_mut.ensures.value)

@@ -7,14 +7,14 @@ use Rattle.registry.proofs.parts.rows.drop_row.Goals as goal
 pub leave-requires : goal.leave-requires
 leave-requires g c =
     let old = c.args.parts.now in
-    let h = c.requires.kept in
+    let h = c.requires.consistent in
     let at = c.args.pool in
     h.room at _ _ (read_at old.pools.items (length old.decls) at _ h.pool_each c.requires.declared c.index_mut.ensures.value) (read_at old.destroy.items (length old.decls) at _ h.destroy_each c.requires.declared c.index_mut-2.ensures.value)
 
 pub returns-clause-gone : goal.returns-clause-gone
 returns-clause-gone g c =
     let old = c.args.parts.now in
-    let h = c.requires.kept in
+    let h = c.requires.consistent in
     let at = c.args.pool in
     let low = c.requires.declared in
     on_true c.leave.result (λ was. left old at c.index_mut.result.now c.leave.new.pool (read_at old.pools.items (length old.decls) at _ h.pool_each low c.index_mut.ensures.value)
@@ -24,7 +24,7 @@ returns-clause-gone g c =
 pub returns-clause-none : goal.returns-clause-none
 returns-clause-none g c =
     let old = c.args.parts.now in
-    let h = c.requires.kept in
+    let h = c.requires.consistent in
     let at = c.args.pool in
     let low = c.requires.declared in
     on_false c.leave.result (λ none. not_left old at c.index_mut.result.now c.leave.new.pool (read_at old.pools.items (length old.decls) at _ h.pool_each low c.index_mut.ensures.value)

@@ -6,14 +6,14 @@ use Rattle.registry.proofs.parts.rows.put_row.Goals as goal
 pub enter-requires : goal.enter-requires
 enter-requires g c =
     let old = c.args.parts.now in
-    let h = c.requires.kept in
+    let h = c.requires.consistent in
     let at = c.args.pool in
     h.room at _ _ (read_at old.pools.items (length old.decls) at _ h.pool_each c.requires.declared c.index_mut.ensures.value) (read_at old.destroy.items (length old.decls) at _ h.destroy_each c.requires.declared c.index_mut-3.ensures.value)
 
 pub returns-clause-ok : goal.returns-clause-ok
 returns-clause-ok g c =
     let old = c.args.parts.now in
-    let h = c.requires.kept in
+    let h = c.requires.consistent in
     let at = c.args.pool in
     let low = c.requires.declared in
     both_ok c.enter.result c.enter.ensures.map c.enter.ensures.heard (λ map heard. entered old at c.index_mut.result.now c.enter.new.pool (read_at old.pools.items (length old.decls) at _ h.pool_each low c.index_mut.ensures.value)
@@ -24,7 +24,7 @@ returns-clause-ok g c =
 pub returns-clause-err : goal.returns-clause-err
 returns-clause-err g c =
     let old = c.args.parts.now in
-    let h = c.requires.kept in
+    let h = c.requires.consistent in
     let at = c.args.pool in
     let low = c.requires.declared in
     both_err c.enter.result c.enter.ensures.err c.enter.ensures.heard_err (λ same quiet. not_entered old at c.index_mut.result.now c.enter.new.pool (read_at old.pools.items (length old.decls) at _ h.pool_each low c.index_mut.ensures.value)

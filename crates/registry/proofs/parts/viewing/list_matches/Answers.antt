@@ -19,10 +19,10 @@ returns g c =
     let pool = get_or c.args.all.now c.smallest.result 0 in
     let stored = c.index.result.now in
     let low : pool < length parts.decls = ltb-true pool (length parts.decls) (all_pass (λ p. ltb p (length parts.decls)) c.args.all.now c.smallest.result c.smallest.ensures c.requires.declared) in
-    let here : slice_get parts.pools.items pool ≡ Some stored = slice_get_read parts.pools.items (length parts.pools.items) pool stored refl (omega (arith, c.requires.kept.pool_each)) c.index.ensures in
+    let here : slice_get parts.pools.items pool ≡ Some stored = slice_get_read parts.pools.items (length parts.pools.items) pool stored refl (omega (arith, c.requires.consistent.pool_each)) c.index.ensures in
     let permuted : IsPermutation (entries.keys (entries.map_of stored.pairs)) c.packed.result.now = subst (IsPermutation (entries.keys (entries.map_of stored.pairs))) (sym (c.packed.ensures.list ∙ c.index-set.ensures.list)) (keys_permute stored.pairs c.index-set.ensures.once) in
     found_matches w c.args.all.now c.args.without.now c.smallest.result c.packed.result.now c.sort_unstable_by_key.new.self.items c.smallest.ensures
-    (λ p. ascending_rows parts.slots.limit w p c.requires.kept.lawful)
+    (λ p. ascending_rows parts.slots.limit w p c.requires.consistent.lawful)
     (subst (λ rows. IsPermutation (entries.keys rows) c.packed.result.now) (sym (at_pool parts pool stored stored here)) permuted)
     (subst (λ list. IsPermutation list c.sort_unstable_by_key.new.self.items) c.in_ok-found.ensures c.sort_unstable_by_key.ensures.permutation)
     (c.sort_unstable_by_key.ensures.sorted (λ (e : Entity). e.index) (always_returns_same _ (λ a r. r ≡ a.0.now.index) _ (λ a r q k. search rules)))
