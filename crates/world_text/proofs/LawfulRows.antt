@@ -81,7 +81,7 @@ value_within profile entity of_value =
       | inr below ↦ below_within profile entity below
     ]
 
-value_is_i64 : (profile : Profile) (v : FieldValue) → HasLimits profile → IsValue profile v → IsI64 (field_of_value profile v)
+pub value_is_i64 : (profile : Profile) (v : FieldValue) → HasLimits profile → IsValue profile v → IsI64 (field_of_value profile v)
 value_is_i64 profile (value.Int number) limits of_value = of_value
 value_is_i64 profile (value.Ref entity) limits of_value = field_is_i64 profile entity limits (value_within profile entity of_value)
 
@@ -94,7 +94,7 @@ ref_fits profile entity limits of_value =
           (ap (is_below profile) (field_holds profile entity limits (below_within profile entity below)) ∙ below)
     ]
 
-kind_fits : (profile : Profile) (k : Kind) (v : FieldValue) → HasLimits profile → IsValue profile v → is_of_kind k v ≡ true → fits_kind profile k (field_of_value profile v) ≡ true
+pub kind_fits : (profile : Profile) (k : Kind) (v : FieldValue) → HasLimits profile → IsValue profile v → is_of_kind k v ≡ true → fits_kind profile k (field_of_value profile v) ≡ true
 kind_fits profile kind.Int v limits of_value of_kind = refl
 kind_fits profile kind.Ref (value.Int number) limits of_value of_kind = absurd (false≢true of_kind)
 kind_fits profile kind.Ref (value.Ref entity) limits of_value of_kind = ref_fits profile entity limits of_value

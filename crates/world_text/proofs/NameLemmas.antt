@@ -13,7 +13,7 @@ use Rattle.world_text.specs.Lines.{IsNamedDecl}
 use Rattle.world_model.specs.Components.{has_name}
 use Rattle.world_text.specs.Documents.{AreNamedDecls, are_named_apart}
 use Rattle.world_text.specs.Scripts.{name_at}
-use Rattle.world_text.specs.ScriptReading.{ends_name, EndsName, IsNameSplit, IsPoolFirst}
+use Rattle.world_text.specs.ScriptReading.{ends_name, EndsName, IsNameSplit, IsPoolNext}
 
 -- ---- a text has one cut at the end of its name
 
@@ -126,7 +126,7 @@ cut_nowhere text front back none is_front is_back =
 -- ---- components by their names
 
 -- one text begins with one component's name
-named_at : (decls : List Decl) (pool : ℕ) → AllByRecursion IsNamedDecl decls → pool < length decls → is_name (name_at decls pool) ≡ true
+pub named_at : (decls : List Decl) (pool : ℕ) → AllByRecursion IsNamedDecl decls → pool < length decls → is_name (name_at decls pool) ≡ true
 named_at [] pool each within = absurd (omega arith)
 named_at (decl ∷ decls) zero each within = each.0.name
 named_at (decl ∷ decls) (suc pool) each within = named_at decls pool each.1 (omega arith)
@@ -141,7 +141,7 @@ differs name (decl ∷ decls) zero none within e = both_ways (bytes_eq name decl
 differs name (decl ∷ decls) (suc pool) none within e = differs name decls pool (or_parts (bytes_eq name decl.name) _ none).1 (omega arith) e
 
 -- where names stand apart, a name is at one place
-one_place : (decls : List Decl) (a b : ℕ) → are_named_apart decls ≡ true → a < length decls → b < length decls → name_at decls a ≡ name_at decls b → a ≡ b
+pub one_place : (decls : List Decl) (a b : ℕ) → are_named_apart decls ≡ true → a < length decls → b < length decls → name_at decls a ≡ name_at decls b → a ≡ b
 one_place [] a b apart la lb e = absurd (omega arith)
 one_place (decl ∷ decls) zero zero apart la lb e = refl
 one_place (decl ∷ decls) zero (suc b) apart la lb e = absurd (differs decl.name decls b (not-true _ (and_parts _ (are_named_apart decls) apart).0) (omega arith) e)
@@ -149,9 +149,9 @@ one_place (decl ∷ decls) (suc a) zero apart la lb e = absurd (differs decl.nam
 one_place (decl ∷ decls) (suc a) (suc b) apart la lb e = ap suc (one_place decls a b (and_parts _ _ apart).1 (omega arith) (omega arith) e)
 
 -- a text begins with one component's name
-pub one_pool : (decls : List Decl) (text x y : List ℕ) (a b : ℕ) → AreNamedDecls decls → IsPoolFirst decls text a x → IsPoolFirst decls text b y → (a ≡ b) × (x ≡ y)
+pub one_pool : (decls : List Decl) (text x y : List ℕ) (a b : ℕ) → AreNamedDecls decls → IsPoolNext decls text a x → IsPoolNext decls text b y → (a ≡ b) × (x ≡ y)
 one_pool decls text x y a b named p q =
-    let same = same_name_split (name_at decls a) (name_at decls b) x y (name_free _ (named_at decls a named.each p.declared)) (name_free _ (named_at decls b named.each q.declared)) p.ended q.ended (sym p.whole ∙ q.whole) in
+    let same = same_name_split (name_at decls a) (name_at decls b) x y (name_free _ (named_at decls a named.each p.declared)) (name_free _ (named_at decls b named.each q.declared)) p.ended q.ended (ap (drop 1) (sym p.whole ∙ q.whole)) in
     (one_place decls a b named.apart p.declared q.declared same.0, same.1)
 
 -- where a name is found
@@ -161,7 +161,7 @@ pub record IsFound (name : List ℕ) (decls : List Decl) (from place : ℕ) : Ty
   pub counted : place ≡ from + pool
   pub named : name ≡ name_at decls pool
 
-name_found : (name : List ℕ) (decls : List Decl) (from place : ℕ) → position_from (has_name name) from decls ≡ Some place → IsFound name decls from place
+pub name_found : (name : List ℕ) (decls : List Decl) (from place : ℕ) → position_from (has_name name) from decls ≡ Some place → IsFound name decls from place
 name_found name [] from place h = absurd (none-some place h)
 name_found name (decl ∷ decls) from place h = elim (cases_Bool (has_name name decl)) [
   | inl here ↦ record {
@@ -176,7 +176,7 @@ name_found name (decl ∷ decls) from place h = elim (cases_Bool (has_name name 
 ]
 
 -- a name is at none of the components behind the first, or not at all
-name_nowhere : (name : List ℕ) (decls : List Decl) (from pool : ℕ) → position_from (has_name name) from decls ≡ None → pool < length decls → name ≡ name_at decls pool → ⊥
+pub name_nowhere : (name : List ℕ) (decls : List Decl) (from pool : ℕ) → position_from (has_name name) from decls ≡ None → pool < length decls → name ≡ name_at decls pool → ⊥
 name_nowhere name [] from pool h within e = omega arith
 name_nowhere name (decl ∷ decls) from zero h within e =
     none-some from (sym h ∙ ap (λ b. cond b (Some from) (position_from (has_name name) (from + 1) decls)) (same_test decl.name name (sym e)))
@@ -186,18 +186,18 @@ name_nowhere name (decl ∷ decls) from (suc pool) h within e = elim (cases_Bool
 ]
 
 -- the component that a text names
-pub pool_first : (decls : List Decl) (text name rest : List ℕ) (pool : ℕ) → IsNameSplit text name rest → position_from (has_name name) 0 decls ≡ Some pool → IsPoolFirst decls text pool rest
-pool_first decls text name rest pool split found =
+pub pool_first : (decls : List Decl) (text behind name rest : List ℕ) (pool : ℕ) → text ≡ 32 ∷ behind → IsNameSplit behind name rest → position_from (has_name name) 0 decls ≡ Some pool → IsPoolNext decls text pool rest
+pool_first decls text behind name rest pool spaced split found =
     let h = name_found name decls 0 pool found in
     let same : pool ≡ h.pool = omega (arith, h.counted) in
     record {
       declared = omega (arith, h.declared);
-      whole = split.whole ∙ ap (λ n. n ++ rest) (h.named ∙ ap (name_at decls) (sym same));
+      whole = spaced ∙ ap (λ t. 32 ∷ t) (split.whole ∙ ap (λ n. n ++ rest) (h.named ∙ ap (name_at decls) (sym same)));
       ended = split.ended;
     }
 
 -- a text names no component
-pub no_pool_first : (decls : List Decl) (text name rest : List ℕ) → AreNamedDecls decls → IsNameSplit text name rest → position_from (has_name name) 0 decls ≡ None → (pool : ℕ) (more : List ℕ) → IsPoolFirst decls text pool more → ⊥
-no_pool_first decls text name rest named split none pool more p =
+pub no_pool_first : (decls : List Decl) (text behind name rest : List ℕ) → AreNamedDecls decls → text ≡ 32 ∷ behind → IsNameSplit behind name rest → position_from (has_name name) 0 decls ≡ None → (pool : ℕ) (more : List ℕ) → IsPoolNext decls text pool more → ⊥
+no_pool_first decls text behind name rest named spaced split none pool more p =
     name_nowhere name decls 0 pool none p.declared
-    (same_name_split name (name_at decls pool) rest more split.free (name_free _ (named_at decls pool named.each p.declared)) split.ended p.ended (sym split.whole ∙ p.whole)).0
+    (same_name_split name (name_at decls pool) rest more split.free (name_free _ (named_at decls pool named.each p.declared)) split.ended p.ended (sym split.whole ∙ ap (drop 1) (sym spaced ∙ p.whole))).0

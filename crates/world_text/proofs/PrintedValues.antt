@@ -62,11 +62,11 @@ value_case : (profile : Profile) (v : ℤ) (t : Bool) → (t || is_below profile
 value_case profile v true fit = or_left _ _ (same_itself (null profile))
 value_case profile v false fit = or_right _ _ fit
 
-value_spelled : (profile : Profile) (k : Kind) (v : ℤ) → IsI64 v → fits_kind profile k v ≡ true → IsValue profile (value_in profile k v)
+pub value_spelled : (profile : Profile) (k : Kind) (v : ℤ) → IsI64 v → fits_kind profile k v ≡ true → IsValue profile (value_in profile k v)
 value_spelled profile kind.Int v small fit = small
 value_spelled profile kind.Ref v small fit = value_case profile v (int_eq v (negsuc 0)) fit
 
-value_of_kind : (profile : Profile) (k : Kind) (v : ℤ) → is_of_kind k (value_in profile k v) ≡ true
+pub value_of_kind : (profile : Profile) (k : Kind) (v : ℤ) → is_of_kind k (value_in profile k v) ≡ true
 value_of_kind profile kind.Int v = refl
 value_of_kind profile kind.Ref v = refl
 

@@ -114,7 +114,7 @@ whole_front format bytes document count h = record {
 }
 
 -- no line is admissible behind the end
-fits_nowhere : (format : Format) (before : List Line) (l : Line) → last_section before ≡ section.End → fits format before l ≡ false
+pub fits_nowhere : (format : Format) (before : List Line) (l : Line) → last_section before ≡ section.End → fits format before l ≡ false
 fits_nowhere format before line.Version ended = ap (is_between section.Start section.Start) ended
 fits_nowhere format before (line.Component decl) ended = and_left _ _ (ap (is_between section.Version section.Components) ended)
 fits_nowhere format before (line.Tick tick) ended = ap (is_between section.Version section.Components) ended

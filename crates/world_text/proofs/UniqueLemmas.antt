@@ -1,5 +1,5 @@
 -- A text is read in one way.
-use Rattle.std.proofs.Common.{◌≡◌, ◌⊎◌, inl, inr, ℕ, Bool, true, false, ◌&&◌, List, [], ◌∷◌, ◌++◌, length, length-append, refl, sym, ap, subst, ◌∙◌, arith, append_assoc}
+use Rattle.std.proofs.Common.{◌≡◌, ◌⊎◌, inl, inr, ℕ, Bool, true, false, List, [], ◌∷◌, ◌++◌, length, length-append, refl, sym, ap, subst, ◌∙◌, arith, append_assoc}
 use Rattle.std.specs.List.{AllByRecursion}
 use Rattle.std.proofs.lemmas.List.{append-nil}
 use Rattle.std.proofs.lemmas.Bool.{and_parts}
@@ -11,10 +11,7 @@ use Rattle.world_text.specs.Formats.{IsFormat}
 use Rattle.world_text.specs.Lines.{IsLine, line_text, text_of}
 use Rattle.world_text.specs.Meaning.{world_of}
 use Rattle.world_text.specs.Fitting.{fits, fit_after, last_section}
-use Rattle.world_text.specs.declared.section.Section.TheVariants as section
-use Rattle.world_text.specs.LineKinds as line
-use Rattle.world_text.specs.Sections.{is_between}
-use Rattle.world_text.specs.Documents.{IsDocumentOf, IsBadLineOf, IsFrontOf, IsBadFrontOf}
+use Rattle.world_text.specs.Documents.{IsDocumentOf, IsBadLineOf}
 use Rattle.world_text.proofs.LineLemmas.{line_lacks, same_line_text}
 
 module _ (format : Format) (is_format : IsFormat format) where
@@ -22,10 +19,10 @@ module _ (format : Format) (is_format : IsFormat format) where
   regroup l a x = append_assoc (line_text format l ++ 10 ∷ []) (text_of format a) x ∙ append_assoc (line_text format l) (10 ∷ []) (text_of format a ++ x)
 
   -- of two readings of one text, one goes on where the other ends
-  abbrev OneGoesOn : List Line → List Line → List ℕ → List ℕ → Type 0
+  abbrev pub OneGoesOn : List Line → List Line → List ℕ → List ℕ → Type 0
   OneGoesOn a b x y = ((c : List Line) × (b ≡ a ++ c) × (x ≡ text_of format c ++ y)) ⊎ ((c : List Line) × (a ≡ b ++ c) × (y ≡ text_of format c ++ x))
 
-  one_goes_on : (a b : List Line) (x y : List ℕ) → AllByRecursion (IsLine format) a → AllByRecursion (IsLine format) b → text_of format a ++ x ≡ text_of format b ++ y → OneGoesOn a b x y
+  pub one_goes_on : (a b : List Line) (x y : List ℕ) → AllByRecursion (IsLine format) a → AllByRecursion (IsLine format) b → text_of format a ++ x ≡ text_of format b ++ y → OneGoesOn a b x y
   one_goes_on [] b x y p q e = inl (b, refl, e)
   one_goes_on (l ∷ a) [] x y p q e = inr (l ∷ a, refl, sym e)
   one_goes_on (l ∷ a) (m ∷ b) x y p q e =
@@ -40,7 +37,7 @@ module _ (format : Format) (is_format : IsFormat format) where
   no_text [] y e = (refl, sym e)
   no_text (l ∷ c) y e = absurd (omega (arith, ap length (e ∙ regroup l c y), length-append (line_text format l) (10 ∷ (text_of format c ++ y))))
 
-  fits_next : (before a c : List Line) (l : Line) → fit_after format before (a ++ l ∷ c) ≡ true → fits format (before ++ a) l ≡ true
+  pub fits_next : (before a c : List Line) (l : Line) → fit_after format before (a ++ l ∷ c) ≡ true → fits format (before ++ a) l ≡ true
   fits_next before [] c l h = subst (λ ls. fits format ls l ≡ true) (sym (append-nil before)) (and_parts _ _ h).0
   fits_next before (m ∷ a) c l h = subst (λ ls. fits format ls l ≡ true) (append_assoc before (m ∷ []) a) (fits_next (before ++ m ∷ []) a c l (and_parts _ _ h).1)
 
@@ -52,7 +49,7 @@ module _ (format : Format) (is_format : IsFormat format) where
   last_is (m ∷ a) c l h = last_is a c l h.1
 
   -- lines that go on past a bad one don't fit
-  not_past : (bytes : List ℕ) (k : ℕ) (bad : IsBadLineOf format bytes k) (a c : List Line) (y : List ℕ) → a ≡ bad.lines ++ c → bad.rest ≡ text_of format c ++ y → AllByRecursion (IsLine format) a → fit_after format [] a ≡ true → c ≡ []
+  pub not_past : (bytes : List ℕ) (k : ℕ) (bad : IsBadLineOf format bytes k) (a c : List Line) (y : List ℕ) → a ≡ bad.lines ++ c → bad.rest ≡ text_of format c ++ y → AllByRecursion (IsLine format) a → fit_after format [] a ≡ true → c ≡ []
   not_past bytes k bad a [] y e rest each fit = refl
   not_past bytes k bad a (l ∷ c) y e rest each fit = absurd (
       let yes = fits_next [] bad.lines c l (subst (λ ls. fit_after format [] ls ≡ true) e fit) in
@@ -90,58 +87,3 @@ module _ (format : Format) (is_format : IsFormat format) where
         | inr h ↦ let none = not_past bytes k q p.lines h.0 p.rest h.1 h.2 p.admissible.each p.admissible.fit in
             omega (arith, p.counted, q.counted, ap length h.1, length-append q.lines h.0, ap length none)
       ]
-
-  -- ---- a document at the front of a text
-
-  when_not : (a b : Bool) → a ≡ false → (a && b) ≡ false
-  when_not a b h = ap (λ (c : Bool). c && b) h
-
-  -- behind the end fits no line
-  ended_fits_none : (lines : List Line) (l : Line) → last_section lines ≡ section.End → fits format lines l ≡ false
-  ended_fits_none lines line.Version e = ap (is_between section.Start section.Start) e
-  ended_fits_none lines (line.Component decl) e = when_not _ _ (ap (is_between section.Version section.Components) e)
-  ended_fits_none lines (line.Tick tick) e = ap (is_between section.Version section.Components) e
-  ended_fits_none lines (line.Slot slot) e = when_not _ _ (ap (is_between section.Tick section.Slots) e)
-  ended_fits_none lines (line.Next index) e = when_not _ _ (ap (is_between section.Tick section.FreeList) e)
-  ended_fits_none lines (line.Pool name) e = when_not _ _ (ap (is_between section.Tick section.Pools) e)
-  ended_fits_none lines (line.Row entity values) e = when_not _ _ (ap (is_between section.Pools section.Pools) e)
-  ended_fits_none lines line.End e = when_not _ _ (ap (is_between section.Tick section.Pools) e)
-
-  none_behind_end : (a c b : List Line) → b ≡ a ++ c → last_section a ≡ section.End → fit_after format [] b ≡ true → c ≡ []
-  none_behind_end a [] b is e fit = refl
-  none_behind_end a (l ∷ c) b is e fit = absurd (true_not_false (fits format a l) (fits_next [] a c l (subst (λ ls. fit_after format [] ls ≡ true) is fit)) (ended_fits_none a l e))
-
-  -- a text begins with one document
-  pub record IsOneFront (v w : Document) (j k : ℕ) (x y : List ℕ) : Type 0 where
-    pub document : v ≡ w
-    pub count : j ≡ k
-    pub rest : x ≡ y
-
-  same_front : (bytes : List ℕ) (v w : Document) (j k : ℕ) (x y : List ℕ) (p : IsFrontOf format bytes v j x) (q : IsFrontOf format bytes w k y) → p.lines ≡ q.lines → x ≡ y → IsOneFront v w j k x y
-  same_front bytes v w j k x y p q same rest =
-      let worlds = p.world_is ∙ ap (world_of format) same ∙ sym q.world_is in
-      record { document = λ i. record { world = worlds i }; count = p.counted ∙ ap length same ∙ sym q.counted; rest = rest }
-
-  pub one_front : (bytes : List ℕ) (v w : Document) (j k : ℕ) (x y : List ℕ) → IsFrontOf format bytes v j x → IsFrontOf format bytes w k y → IsOneFront v w j k x y
-  one_front bytes v w j k x y p q =
-      elim (one_goes_on p.lines q.lines x y p.admissible.each q.admissible.each (sym p.spelled ∙ q.spelled)) as (λ _. IsOneFront v w j k x y) [
-        | inl h ↦ let none = none_behind_end p.lines h.0 q.lines h.1 p.ended q.admissible.fit in
-            same_front bytes v w j k x y p q (sym (h.1 ∙ ap (λ c. p.lines ++ c) none ∙ append-nil p.lines)) (h.2 ∙ ap (λ c. text_of format c ++ y) none)
-        | inr h ↦ let none = none_behind_end q.lines h.0 p.lines h.1 q.ended p.admissible.fit in
-            same_front bytes v w j k x y p q (h.1 ∙ ap (λ c. q.lines ++ c) none ∙ append-nil q.lines) (sym (h.2 ∙ ap (λ c. text_of format c ++ x) none))
-      ]
-
-  pub no_bad_front : (bytes : List ℕ) (v : Document) (j k : ℕ) (x : List ℕ) → IsFrontOf format bytes v j x → IsBadFrontOf format bytes k → ⊥
-  no_bad_front bytes v j k x d b =
-      let bad = b.bad in
-      elim (one_goes_on bad.lines d.lines bad.rest x bad.admissible.each d.admissible.each (sym bad.spelled ∙ d.spelled)) as (λ _. ⊥) [
-        | inl h ↦
-            let none = not_past bytes k bad d.lines h.0 x h.1 h.2 d.admissible.each d.admissible.fit in
-            b.unfinished (sym (ap last_section (h.1 ∙ ap (λ c. bad.lines ++ c) none ∙ append-nil bad.lines)) ∙ d.ended)
-        | inr h ↦
-            let none = none_behind_end d.lines h.0 bad.lines h.1 d.ended bad.admissible.fit in
-            b.unfinished (ap last_section (h.1 ∙ ap (λ c. d.lines ++ c) none ∙ append-nil d.lines) ∙ d.ended)
-      ]
-
-  pub one_front_number : (bytes : List ℕ) (j k : ℕ) → IsBadFrontOf format bytes j → IsBadFrontOf format bytes k → j ≡ k
-  one_front_number bytes j k p q = one_number bytes j k p.bad q.bad

@@ -10,5 +10,7 @@ pub mod Reading
 pub mod Drafts
 pub mod Replies
 pub mod Scripts
+pub mod Playing
 pub mod Refusals
+pub mod Verbs
 pub mod ScriptReading

@@ -56,7 +56,8 @@ text_of format lines = flat_map (λ l. line_text format l ++ 10 ∷ []) lines
 
 -- ---- which lines there are
 
--- The limit of 4,096 bytes for a line refuses none of these: in version 1 the longest is a row of 100 bytes.
+-- The limit of 4,096 bytes for a line refuses none of these: in version 1 the longest is a row of 100 bytes. Nor does it refuse a line of
+-- a script: the longest is an `all_of` or `any_of` line of 547 bytes, with 16 names of 32 bytes.
 
 -- a component with at most 4 fields, and a name of the form of a name
 pub record IsNamedDecl (decl : Decl) : Type 0 where

@@ -1,5 +1,5 @@
 -- What a refusal of the reader says.
-use Rattle.std.specs.Prelude.{ℕ, List}
+use Rattle.std.specs.Prelude.{ℕ, ◌≤◌, List}
 use Rattle.world_text.specs.declared.fault.TextRefused.{TextRefused}
 use Rattle.world_text.specs.declared.fault.TextRefused.TheVariants.{BadLine, OutOfMemory}
 use Rattle.entity_id.specs.declared.entity.Profile.{Profile}
@@ -26,3 +26,8 @@ IsScriptCause profile decls text OutOfMemory = Unit {0}
 abbrev pub IsScriptedCause : List ℕ → TextRefused → Type 0
 IsScriptedCause text (BadLine number) = IsBadScriptedLine text number
 IsScriptedCause text OutOfMemory = Unit {0}
+
+-- a refusal names no line behind this one
+abbrev pub IsFarAtMost : ℕ → TextRefused → Type 0
+IsFarAtMost most (BadLine line) = line ≤ most
+IsFarAtMost most OutOfMemory = Unit {0}

@@ -3,6 +3,7 @@ use Rattle.std.specs.Prelude.{ℕ, List, [], ◌∷◌, ◌++◌, slice_get, cod
 use Rattle.std.specs.List.{flat_map}
 use Rattle.std.specs.Fmt.{decimal}
 use Rattle.std.specs.Option.{option_map_or}
+use Rattle.entity_id.specs.declared.entity.Entity.{Entity}
 use Rattle.entity_id.specs.declared.entity.Profile.{Profile}
 use Rattle.entity_id.specs.Texts.{entity_text}
 use Rattle.world_model.specs.declared.command.Command.{Command}
@@ -10,10 +11,12 @@ use Rattle.world_model.specs.declared.command.Command.TheVariants as command
 use Rattle.world_model.specs.declared.command.Reply.{Reply}
 use Rattle.world_model.specs.declared.command.Reply.TheVariants.{Done, Made, Truth, Number, Values, Listed, GroupNumber, Refused}
 use Rattle.world_model.specs.declared.component.Decl.{Decl}
+use Rattle.world_model.specs.declared.event.EventKind.{EventKind}
 use Rattle.world_model.specs.declared.refusal.Refusal.{Refusal}
 use Rattle.world_model.specs.declared.refusal.Refusal.TheVariants as refusal
 use Rattle.world_text.specs.Documents.{values_in}
 use Rattle.world_text.specs.Lines.{values_text}
+use Rattle.world_text.specs.Scripts.{event_word, name_at}
 
 -- a refusal; want of memory and an undeclared component never come as a reply of a script
 abbrev pub refusal_text : Refusal → List ℕ
@@ -60,3 +63,22 @@ reply_text profile decls asked (Values row) =
 reply_text profile decls asked (Listed entities) = answer_word asked ++ flat_map (λ entity. 32 ∷ entity_text profile entity) entities
 reply_text profile decls asked (GroupNumber group) = codes "group " ++ decimal group
 reply_text profile decls asked (Refused cause) = refusal_text cause
+
+-- ---- watches
+
+-- the reply to a `watch` line, without its end: the number of the watch
+abbrev pub watched_text : ℕ → List ℕ
+watched_text number = codes "watch " ++ decimal number
+
+-- the reply to an `unwatch` line, without its end: how many events were heard
+abbrev pub unwatched_text : ℕ → List ℕ
+unwatched_text count = codes "unwatched " ++ decimal count
+
+-- an event that a watch heard: the number, the kind and the component's name of the watch, and the entity, with the end of the line
+abbrev pub heard_line : Profile → ℕ → EventKind → List ℕ → Entity → List ℕ
+heard_line profile number kind name entity =
+    codes "heard " ++ (decimal number ++ 32 ∷ (event_word kind ++ 32 ∷ (name ++ 32 ∷ (entity_text profile entity ++ 10 ∷ []))))
+
+-- the events that a watch heard, a line for each
+abbrev pub heard_text : Profile → List Decl → ℕ → EventKind → ℕ → List Entity → List ℕ
+heard_text profile decls number kind pool heard = flat_map (heard_line profile number kind (name_at decls pool)) heard

@@ -1,12 +1,24 @@
 -- What readers of parts of a script's line say.
-use Rattle.std.specs.Prelude.{◌≡◌, ℕ, ◌<◌, Bool, true, false, ◌||◌, ◌==◌, List, [], ◌∷◌, ◌++◌, length}
-use Rattle.std.specs.List.{AllByRecursion}
+use Rattle.std.specs.Prelude.{◌≡◌, ℕ, ℤ, ◌+◌, ◌<◌, ◌≤◌, Bool, true, false, ◌||◌, ◌==◌, nat_le, List, [], ◌∷◌, ◌++◌, length, All, IsPermutation}
+use Rattle.std.specs.List.{AllByRecursion, list_any}
+use Rattle.std.specs.List.Sorted.{IsNonDecreasing}
+use Rattle.std.specs.Fmt.{decimal}
 use Rattle.entity_id.specs.declared.entity.Entity.{Entity}
 use Rattle.entity_id.specs.declared.entity.Profile.{Profile}
 use Rattle.entity_id.specs.Identifiers.{IsOfProfile}
-use Rattle.entity_id.specs.Texts.{entity_text}
+use Rattle.entity_id.specs.Texts.{entity_text, EndsNumber}
+use Rattle.world_model.specs.declared.command.Command.TheVariants as command
 use Rattle.world_model.specs.declared.component.Decl.{Decl}
-use Rattle.world_text.specs.Scripts.{name_at, entry_text, IsEntry}
+use Rattle.world_model.specs.declared.component.Row.{Row}
+use Rattle.world_model.specs.declared.event.EventKind.{EventKind}
+use Rattle.world_model.specs.Tokens.{field_count}
+use Rattle.world_model.specs.Conditions.{MaySet, MaySetField, view_limit}
+use Rattle.world_text.specs.declared.script.ScriptLine.{ScriptLine}
+use Rattle.world_text.specs.declared.script.ScriptLine.TheVariants.{Run, Watch, Unwatch}
+use Rattle.world_text.specs.declared.verbs.Verb.{Verb}
+use Rattle.world_text.specs.declared.verbs.Verb.TheVariants as verb
+use Rattle.world_text.specs.Scripts.{name_at, entry_text, row_text, field_text, field_value_text, without_text, event_word, unwatch_limit, IsEntry, AreNamedOnce}
+use Rattle.world_text.specs.Verbs.{plain_command, entity_command, entry_command, row_command, names_command}
 
 -- whether a name ends before this byte: a space (32), or a line end (10)
 abbrev pub ends_name : ℕ → Bool
@@ -23,24 +35,127 @@ pub record IsNameSplit (text name rest : List ℕ) : Type 0 where
   pub free : AllByRecursion (λ byte. ends_name byte ≡ false) name
   pub ended : EndsName rest
 
--- a text begins with the name of this component, whole, and this is the rest
-pub record IsPoolFirst (decls : List Decl) (text : List ℕ) (pool : ℕ) (rest : List ℕ) : Type 0 where
-  pub declared : pool < length decls
-  pub whole : text ≡ name_at decls pool ++ rest
-  pub ended : EndsName rest
+-- ---- identifiers and components
 
--- a text begins with an identifier of the profile and behind a space the name of a component, whole, and this is the rest
-pub record IsEntryFirst (profile : Profile) (decls : List Decl) (text : List ℕ) (entity : Entity) (pool : ℕ) (rest : List ℕ) : Type 0 where
-  pub is : IsEntry profile decls entity pool
-  pub whole : text ≡ entry_text profile decls entity pool ++ rest
-  pub ended : EndsName rest
-
--- a text begins with an identifier of the profile up to the end of its line, and this is the rest
-pub record IsEntityLine (profile : Profile) (text : List ℕ) (entity : Entity) (rest : List ℕ) : Type 0 where
+-- a text begins with a space and an identifier of the profile, and this is the rest, which begins with no digit
+pub record IsEntityNext (profile : Profile) (text : List ℕ) (entity : Entity) (rest : List ℕ) : Type 0 where
   pub of_profile : IsOfProfile profile entity
-  pub whole : text ≡ entity_text profile entity ++ 10 ∷ rest
+  pub whole : text ≡ 32 ∷ (entity_text profile entity ++ rest)
+  pub ended : EndsNumber rest
 
--- a text begins with an identifier of the profile and a component up to the end of their line, and this is the rest
-pub record IsEntryLine (profile : Profile) (decls : List Decl) (text : List ℕ) (entity : Entity) (pool : ℕ) (rest : List ℕ) : Type 0 where
+-- a text begins with a space and the name of this component, whole, and this is the rest
+pub record IsPoolNext (decls : List Decl) (text : List ℕ) (pool : ℕ) (rest : List ℕ) : Type 0 where
+  pub declared : pool < length decls
+  pub whole : text ≡ 32 ∷ (name_at decls pool ++ rest)
+  pub ended : EndsName rest
+
+-- a text begins with a space, an identifier of the profile and behind a space the name of a component, whole, and this is the rest
+pub record IsEntryNext (profile : Profile) (decls : List Decl) (text : List ℕ) (entity : Entity) (pool : ℕ) (rest : List ℕ) : Type 0 where
   pub is : IsEntry profile decls entity pool
-  pub whole : text ≡ entry_text profile decls entity pool ++ 10 ∷ rest
+  pub whole : text ≡ 32 ∷ (entry_text profile decls entity pool ++ rest)
+  pub ended : EndsName rest
+
+-- a text begins with a space and a field of a component, whole, and this is the rest
+pub record IsFieldNext (decls : List Decl) (text : List ℕ) (pool field : ℕ) (rest : List ℕ) : Type 0 where
+  pub declared : pool < length decls
+  pub within : field < field_count decls pool
+  pub whole : text ≡ 32 ∷ (field_text decls pool field ++ rest)
+  pub ended : EndsName rest
+
+-- ---- names of components
+
+-- whether a further component is one of those that were named, or is one too many
+abbrev pub is_over : List ℕ → List ℕ → ℕ → Bool
+is_over others pools pool =
+    nat_le view_limit (length others + length pools) || list_any (λ other. other == pool) others || list_any (λ other. other == pool) pools
+
+-- a text begins with the names of these components, in this order, each behind a space, and this is the rest
+abbrev pub ArePoolsNext : List Decl → List ℕ → List ℕ → List ℕ → Type 0
+ArePoolsNext decls text [] rest = text ≡ rest
+ArePoolsNext decls text (pool ∷ pools) rest = (behind : List ℕ) × IsPoolNext decls text pool behind × ArePoolsNext decls behind pools rest
+
+-- the same, and no further name follows; none is named twice, also not beside these others, and all of them are not more than the limit
+pub record AreNamesNext (decls : List Decl) (others : List ℕ) (text : List ℕ) (pools rest : List ℕ) : Type 0 where
+  pub next : ArePoolsNext decls text pools rest
+  pub once : AreNamedOnce (others ++ pools)
+  pub few : length others + length pools ≤ view_limit
+  pub last : (pool : ℕ) (more : List ℕ) → IsPoolNext decls rest pool more → ⊥
+
+-- the same, one name or more, up to the end of the line
+pub record AreNamesLast (decls : List Decl) (others : List ℕ) (text : List ℕ) (pools rest : List ℕ) : Type 0 where
+  pub names : AreNamesNext decls others text pools (10 ∷ rest)
+  pub some : 0 < length pools
+
+-- what a view leaves out, up to the end of its line, beside these others
+pub record IsWithoutLast (decls : List Decl) (others : List ℕ) (text : List ℕ) (pools rest : List ℕ) : Type 0 where
+  pub declared : All (λ pool. pool < length decls) pools
+  pub once : AreNamedOnce (others ++ pools)
+  pub few : length others + length pools ≤ view_limit
+  pub whole : text ≡ without_text decls pools ++ 10 ∷ rest
+
+-- a list is kept in ascending number
+pub record IsKeptAs (order pools : List ℕ) : Type 0 where
+  pub same : IsPermutation order pools
+  pub ascending : IsNonDecreasing pools
+
+-- ---- what stands behind the word of a line, up to the line's end
+
+-- an identifier, a component and a row of it
+pub record IsRowLast (profile : Profile) (decls : List Decl) (text : List ℕ) (entity : Entity) (pool : ℕ) (row : Row) (rest : List ℕ) : Type 0 where
+  pub entry : IsEntryNext profile decls text entity pool (row_text profile decls pool row ++ 10 ∷ rest)
+  pub may_set : MaySet profile decls pool row
+
+-- an identifier and names of components
+pub record AreEntityNames (profile : Profile) (decls : List Decl) (text : List ℕ) (entity : Entity) (pools rest : List ℕ) : Type 0 where
+  pub order : List ℕ
+  pub behind : List ℕ
+  pub first : IsEntityNext profile text entity behind
+  pub names : AreNamesLast decls [] behind order rest
+  pub kept : IsKeptAs order pools
+
+-- an identifier, a field of a component and a value of it
+pub record IsFieldLast (profile : Profile) (decls : List Decl) (text : List ℕ) (entity : Entity) (pool field : ℕ) (value : ℤ) (rest : List ℕ) : Type 0 where
+  pub is : IsEntry profile decls entity pool
+  pub may_set : MaySetField profile decls pool field value
+  pub whole : text ≡ 32 ∷ (entity_text profile entity ++ 32 ∷ (field_text decls pool field ++ 32 ∷ (field_value_text profile decls pool field value ++ 10 ∷ rest)))
+
+-- the names of a view
+pub record IsViewLast (decls : List Decl) (text : List ℕ) (all without rest : List ℕ) : Type 0 where
+  pub order : List ℕ
+  pub excluded : List ℕ
+  pub behind : List ℕ
+  pub names : AreNamesNext decls [] text order behind
+  pub some : 0 < length order
+  pub out : IsWithoutLast decls order behind excluded rest
+  pub kept : IsKeptAs order all
+  pub kept_out : IsKeptAs excluded without
+
+-- a kind of events and a component
+pub record IsWatchLast (decls : List Decl) (text : List ℕ) (kind : EventKind) (pool : ℕ) (rest : List ℕ) : Type 0 where
+  pub declared : pool < length decls
+  pub whole : text ≡ 32 ∷ (event_word kind ++ 32 ∷ (name_at decls pool ++ 10 ∷ rest))
+
+-- the number of a watch
+pub record IsNumberLast (text : List ℕ) (number : ℕ) (rest : List ℕ) : Type 0 where
+  pub within : number ≤ unwatch_limit
+  pub whole : text ≡ 32 ∷ (decimal number ++ 10 ∷ rest)
+
+-- what stands behind a word is the rest of this line, and this stands behind it
+abbrev pub IsLineBehind : Profile → List Decl → Verb → List ℕ → ScriptLine → List ℕ → Type 0
+IsLineBehind profile decls (verb.Plain of) text line rest = (text ≡ 10 ∷ rest) × (line ≡ Run (plain_command of))
+IsLineBehind profile decls (verb.OfEntity of) text line rest =
+    (entity : Entity) × IsEntityNext profile text entity (10 ∷ rest) × (line ≡ Run (entity_command of entity))
+IsLineBehind profile decls (verb.OfEntry of) text line rest =
+    (entity : Entity) × (pool : ℕ) × IsEntryNext profile decls text entity pool (10 ∷ rest) × (line ≡ Run (entry_command of entity pool))
+IsLineBehind profile decls (verb.OfRow of) text line rest =
+    (entity : Entity) × (pool : ℕ) × (row : Row) × IsRowLast profile decls text entity pool row rest × (line ≡ Run (row_command of entity pool row))
+IsLineBehind profile decls (verb.OfNames of) text line rest =
+    (entity : Entity) × (pools : List ℕ) × AreEntityNames profile decls text entity pools rest × (line ≡ Run (names_command of entity pools))
+IsLineBehind profile decls verb.Patch text line rest =
+    (entity : Entity) × (pool : ℕ) × (field : ℕ) × (value : ℤ) × IsFieldLast profile decls text entity pool field value rest
+    × (line ≡ Run (command.Patch entity pool field value))
+IsLineBehind profile decls verb.Clear text line rest = (pool : ℕ) × IsPoolNext decls text pool (10 ∷ rest) × (line ≡ Run (command.Clear pool))
+IsLineBehind profile decls verb.View text line rest =
+    (all : List ℕ) × (without : List ℕ) × IsViewLast decls text all without rest × (line ≡ Run (command.View all without))
+IsLineBehind profile decls verb.Watch text line rest = (kind : EventKind) × (pool : ℕ) × IsWatchLast decls text kind pool rest × (line ≡ Watch kind pool)
+IsLineBehind profile decls verb.Unwatch text line rest = (number : ℕ) × IsNumberLast text number rest × (line ≡ Unwatch number)

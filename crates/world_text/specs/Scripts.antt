@@ -1,7 +1,9 @@
--- Scripts: which lines they have, what they print, and which line of an input is the first bad one.
-use Rattle.std.specs.Prelude.{◌≡◌, ◌≢◌, ◌⊎◌, ℕ, ◌+◌, ◌<◌, List, [], ◌∷◌, ◌++◌, length, slice_get, codes}
-use Rattle.std.specs.List.{flat_map, AllByRecursion}
-use Rattle.std.specs.Option.{option_map_or}
+-- Scripts: which lines they have, and which line of an input is the first bad one. What they do stands in `Playing.antt`.
+use Rattle.std.specs.Prelude.{◌≡◌, ◌≢◌, ◌⊎◌, ℕ, ◌+◌, ◌<◌, ◌≤◌, ◌==◌, ℤ, List, [], ◌∷◌, ◌++◌, length, slice_get, codes, Option, count_by, All, IsPermutation}
+use Rattle.std.specs.List.{flat_map, AllByRecursion, AllZip}
+use Rattle.std.specs.List.Sorted.{IsNonDecreasing}
+use Rattle.std.specs.Option.{option_map_or, option_and_then}
+use Rattle.std.specs.Fmt.{decimal}
 use Rattle.entity_id.specs.declared.entity.Entity.{Entity}
 use Rattle.entity_id.specs.declared.entity.Profile.{Profile}
 use Rattle.entity_id.specs.Identifiers.{IsOfProfile}
@@ -9,23 +11,28 @@ use Rattle.entity_id.specs.Texts.{entity_text}
 use Rattle.world_model.specs.declared.command.Command.{Command}
 use Rattle.world_model.specs.declared.command.Command.TheVariants as command
 use Rattle.world_model.specs.declared.component.Decl.{Decl}
+use Rattle.world_model.specs.declared.component.Kind.{Kind}
 use Rattle.world_model.specs.declared.component.Row.{Row}
-use Rattle.world_model.specs.declared.world.World.{World}
-use Rattle.world_model.specs.Conditions.{MaySet}
-use Rattle.world_model.specs.Steps.{step}
+use Rattle.world_model.specs.declared.event.EventKind.{EventKind}
+use Rattle.world_model.specs.declared.event.EventKind.TheVariants as event
+use Rattle.world_model.specs.Components.{kinds_of}
+use Rattle.world_model.specs.Conditions.{MaySet, MaySetField, MayView}
 use Rattle.world_text.specs.declared.document.Document.{Document}
 use Rattle.world_text.specs.declared.script.ScriptLine.{ScriptLine}
-use Rattle.world_text.specs.declared.script.ScriptLine.TheVariants.{Run}
-use Rattle.world_text.specs.Documents.{IsFrontOf, IsBadFrontOf, values_in, text}
+use Rattle.world_text.specs.declared.script.ScriptLine.TheVariants.{Run, Watch, Unwatch}
+use Rattle.world_text.specs.Documents.{IsFrontOf, IsBadFrontOf, value_in, values_in}
 use Rattle.world_text.specs.Formats.{version_1}
-use Rattle.world_text.specs.Lines.{values_text}
-use Rattle.world_text.specs.Replies.{reply_text}
+use Rattle.world_text.specs.Lines.{value_text, values_text}
 
 -- ---- spelling
 
 -- the name of a component
 abbrev pub name_at : List Decl → ℕ → List ℕ
 name_at decls pool = option_map_or (λ decl. decl.name) (slice_get decls pool) []
+
+-- the kind of a field of a component
+abbrev pub kind_at : List Decl → ℕ → ℕ → Option Kind
+kind_at decls pool field = option_and_then (λ decl. slice_get (kinds_of decl) field) (slice_get decls pool)
 
 -- the values of a row of a component, each behind a space
 abbrev pub row_text : Profile → List Decl → ℕ → Row → List ℕ
@@ -35,19 +42,72 @@ row_text profile decls pool row = values_text profile (option_map_or (λ decl. v
 abbrev pub entry_text : Profile → List Decl → Entity → ℕ → List ℕ
 entry_text profile decls entity pool = entity_text profile entity ++ 32 ∷ name_at decls pool
 
--- a command without the end of its line
+-- a field of a component: its name, a dot (46) and the field's number
+abbrev pub field_text : List Decl → ℕ → ℕ → List ℕ
+field_text decls pool field = name_at decls pool ++ 46 ∷ decimal field
+
+-- a value of a field of a component
+abbrev pub field_value_text : Profile → List Decl → ℕ → ℕ → ℤ → List ℕ
+field_value_text profile decls pool field value = option_map_or (λ kind. value_text profile (value_in profile kind value)) (kind_at decls pool field) []
+
+-- names of components, each behind a space
+abbrev pub names_text : List Decl → List ℕ → List ℕ
+names_text decls pools = flat_map (λ pool. 32 ∷ name_at decls pool) pools
+
+-- the components that a view leaves out: nothing, or the word `not` and their names
+abbrev pub without_text : List Decl → List ℕ → List ℕ
+without_text decls [] = []
+without_text decls (pool ∷ pools) = codes " not" ++ names_text decls (pool ∷ pools)
+
+-- a command that names components in the order in which it lists them, without the end of its line
 abbrev pub command_text : Profile → List Decl → Command → List ℕ
 command_text profile decls command.Create = codes "create"
+command_text profile decls (command.Hint entity) = codes "hint " ++ entity_text profile entity
 command_text profile decls (command.Destroy entity) = codes "destroy " ++ entity_text profile entity
 command_text profile decls (command.Valid entity) = codes "valid " ++ entity_text profile entity
 command_text profile decls (command.Emplace entity pool row) = codes "emplace " ++ (entry_text profile decls entity pool ++ row_text profile decls pool row)
-command_text profile decls (command.Get entity pool) = codes "get " ++ entry_text profile decls entity pool
+command_text profile decls (command.EmplaceOrReplace entity pool row) =
+    codes "emplace_or_replace " ++ (entry_text profile decls entity pool ++ row_text profile decls pool row)
+command_text profile decls (command.Replace entity pool row) = codes "replace " ++ (entry_text profile decls entity pool ++ row_text profile decls pool row)
+command_text profile decls (command.Patch entity pool field value) =
+    codes "patch " ++ (entity_text profile entity ++ 32 ∷ (field_text decls pool field ++ 32 ∷ field_value_text profile decls pool field value))
 command_text profile decls (command.Remove entity pool) = codes "remove " ++ entry_text profile decls entity pool
+command_text profile decls (command.Erase entity pool) = codes "erase " ++ entry_text profile decls entity pool
+command_text profile decls (command.Clear pool) = codes "clear " ++ name_at decls pool
+command_text profile decls (command.Get entity pool) = codes "get " ++ entry_text profile decls entity pool
+command_text profile decls (command.AllOf entity pools) = codes "all_of " ++ (entity_text profile entity ++ names_text decls pools)
+command_text profile decls (command.AnyOf entity pools) = codes "any_of " ++ (entity_text profile entity ++ names_text decls pools)
+command_text profile decls (command.Orphan entity) = codes "orphan " ++ entity_text profile entity
+command_text profile decls command.Alive = codes "alive"
+command_text profile decls command.Size = codes "size"
+command_text profile decls (command.View all without) = codes "view" ++ (names_text decls all ++ without_text decls without)
 command_text profile decls _ = []
+
+-- the word for a kind of events
+abbrev pub event_word : EventKind → List ℕ
+event_word event.Construct = codes "construct"
+event_word event.Update = codes "update"
+event_word event.Destroy = codes "destroy"
 
 -- a line of a script between its first and its last one, with its end, a line feed (10)
 abbrev pub script_line_text : Profile → List Decl → ScriptLine → List ℕ
 script_line_text profile decls (Run command) = command_text profile decls command ++ 10 ∷ []
+script_line_text profile decls (Watch kind pool) = (codes "watch " ++ (event_word kind ++ 32 ∷ name_at decls pool)) ++ 10 ∷ []
+script_line_text profile decls (Unwatch number) = (codes "unwatch " ++ decimal number) ++ 10 ∷ []
+
+-- a command as a script may write it: the components that a command lists may be named in any order
+abbrev pub IsWrittenAs : Command → Command → Type 0
+IsWrittenAs (command.AllOf entity pools) written = (order : List ℕ) × IsPermutation order pools × (written ≡ command.AllOf entity order)
+IsWrittenAs (command.AnyOf entity pools) written = (order : List ℕ) × IsPermutation order pools × (written ≡ command.AnyOf entity order)
+IsWrittenAs (command.View all without) written =
+    (order : List ℕ) × (excluded : List ℕ) × IsPermutation order all × IsPermutation excluded without × (written ≡ command.View order excluded)
+IsWrittenAs command written = written ≡ command
+
+-- a line as a script may write it
+abbrev pub IsLineWrittenAs : ScriptLine → ScriptLine → Type 0
+IsLineWrittenAs (Run command) line = (written : Command) × IsWrittenAs command written × (line ≡ Run written)
+IsLineWrittenAs (Watch kind pool) line = line ≡ Watch kind pool
+IsLineWrittenAs (Unwatch number) line = line ≡ Unwatch number
 
 -- the first line of a script
 abbrev pub first_line : List ℕ
@@ -57,7 +117,7 @@ first_line = codes "script\n"
 abbrev pub last_line : List ℕ
 last_line = codes "end\n"
 
--- the lines of a script without its last one
+-- the lines of a script without its last one, as they are written
 abbrev pub begun_text : Profile → List Decl → List ScriptLine → List ℕ
 begun_text profile decls lines = first_line ++ flat_map (script_line_text profile decls) lines
 
@@ -68,36 +128,81 @@ pub record IsEntry (profile : Profile) (decls : List Decl) (entity : Entity) (po
   pub of_profile : IsOfProfile profile entity
   pub declared : pool < length decls
 
--- the commands that a script can have, with identifiers of the profile, declared components, and rows that fit them
+-- declared components, in ascending number
+pub record AreKept (decls : List Decl) (pools : List ℕ) : Type 0 where
+  pub declared : All (λ pool. pool < length decls) pools
+  pub ascending : IsNonDecreasing pools
+
+-- no component is named twice
+abbrev pub AreNamedOnce : List ℕ → Type 0
+AreNamedOnce pools = (pool : ℕ) → count_by (λ other. other == pool) pools ≤ 1
+
+-- the components that a line lists, and those that it lists behind `not`: one of the first or more, not more than 16 in all, none twice,
+-- each list in ascending number
+pub record AreLists (decls : List Decl) (all without : List ℕ) : Type 0 where
+  pub bounds : MayView all without
+  pub once : AreNamedOnce (all ++ without)
+  pub kept : AreKept decls all
+  pub kept_without : AreKept decls without
+
+-- the commands that a script can have, with identifiers of the profile, declared components, and rows and values that fit them
 abbrev pub IsCommandLine : Profile → List Decl → Command → Type 0
 IsCommandLine profile decls command.Create = Unit {0}
+IsCommandLine profile decls (command.Hint entity) = IsOfProfile profile entity
 IsCommandLine profile decls (command.Destroy entity) = IsOfProfile profile entity
 IsCommandLine profile decls (command.Valid entity) = IsOfProfile profile entity
 IsCommandLine profile decls (command.Emplace entity pool row) = IsEntry profile decls entity pool × MaySet profile decls pool row
-IsCommandLine profile decls (command.Get entity pool) = IsEntry profile decls entity pool
+IsCommandLine profile decls (command.EmplaceOrReplace entity pool row) = IsEntry profile decls entity pool × MaySet profile decls pool row
+IsCommandLine profile decls (command.Replace entity pool row) = IsEntry profile decls entity pool × MaySet profile decls pool row
+IsCommandLine profile decls (command.Patch entity pool field value) = IsEntry profile decls entity pool × MaySetField profile decls pool field value
 IsCommandLine profile decls (command.Remove entity pool) = IsEntry profile decls entity pool
+IsCommandLine profile decls (command.Erase entity pool) = IsEntry profile decls entity pool
+IsCommandLine profile decls (command.Clear pool) = pool < length decls
+IsCommandLine profile decls (command.Get entity pool) = IsEntry profile decls entity pool
+IsCommandLine profile decls (command.AllOf entity pools) = IsOfProfile profile entity × AreLists decls pools []
+IsCommandLine profile decls (command.AnyOf entity pools) = IsOfProfile profile entity × AreLists decls pools []
+IsCommandLine profile decls (command.Orphan entity) = IsOfProfile profile entity
+IsCommandLine profile decls command.Alive = Unit {0}
+IsCommandLine profile decls command.Size = Unit {0}
+IsCommandLine profile decls (command.View all without) = AreLists decls all without
 IsCommandLine profile decls _ = ⊥
+
+-- the greatest number in an `unwatch` line
+abbrev pub unwatch_limit : ℕ
+unwatch_limit = 4294967295
 
 -- the lines that a script can have
 abbrev pub IsScriptLine : Profile → List Decl → ScriptLine → Type 0
 IsScriptLine profile decls (Run command) = IsCommandLine profile decls command
+IsScriptLine profile decls (Watch kind pool) = pool < length decls
+IsScriptLine profile decls (Unwatch number) = number ≤ unwatch_limit
 
 -- a text begins with a line of a script, and this stands behind it
 pub record IsLineFirst (profile : Profile) (decls : List Decl) (bytes : List ℕ) (line : ScriptLine) (rest : List ℕ) : Type 0 where
   pub is : IsScriptLine profile decls line
-  pub spelled : bytes ≡ script_line_text profile decls line ++ rest
+  pub written : ScriptLine
+  pub same : IsLineWrittenAs line written
+  pub spelled : bytes ≡ script_line_text profile decls written ++ rest
+
+-- a text is the line of this command, without its end
+abbrev pub IsCommandText : Profile → List Decl → List ℕ → Command → Type 0
+IsCommandText profile decls text command = IsLineFirst profile decls (text ++ 10 ∷ []) (Run command) []
 
 -- ---- scripts
 
 -- a text is a script of these lines
 pub record IsScript (profile : Profile) (decls : List Decl) (bytes : List ℕ) (lines : List ScriptLine) : Type 0 where
   pub each : AllByRecursion (IsScriptLine profile decls) lines
-  pub spelled : bytes ≡ begun_text profile decls lines ++ last_line
+  pub written : List ScriptLine
+  pub same : AllZip IsLineWrittenAs lines written
+  pub spelled : bytes ≡ begun_text profile decls written ++ last_line
 
 -- how far a script has come: lines of a script, and what stands behind them
 pub record IsBegun (profile : Profile) (decls : List Decl) (bytes : List ℕ) (lines : List ScriptLine) (rest : List ℕ) : Type 0 where
   pub each : AllByRecursion (IsScriptLine profile decls) lines
-  pub spelled : bytes ≡ begun_text profile decls lines ++ rest
+  pub written : List ScriptLine
+  pub same : AllZip IsLineWrittenAs lines written
+  pub spelled : bytes ≡ begun_text profile decls written ++ rest
 
 -- behind these lines stands no further one, and not the last one
 pub record IsBadNext (profile : Profile) (decls : List Decl) (bytes : List ℕ) (lines : List ScriptLine) (rest : List ℕ) : Type 0 where
@@ -140,26 +245,3 @@ pub record IsBadBehind (bytes : List ℕ) (number : ℕ) : Type 0 where
 -- the line of this number is the first of a text that is not admissible in a document or in the script behind it, or that is missing
 abbrev pub IsBadScriptedLine : List ℕ → ℕ → Type 0
 IsBadScriptedLine bytes number = IsBadFrontOf version_1 bytes number ⊎ IsBadBehind bytes number
-
--- ---- what a script does
-
--- what a script gives: the lines that it prints, and the last world
-pub record ScriptOutcome : Type 0 where
-  pub printed : List ℕ
-  pub world : World
-
--- what the lines of a script give one after another, with at most this many slots
-abbrev pub script_outcome : ℕ → World → List ScriptLine → ScriptOutcome
-script_outcome limit w [] = record { printed = []; world = w }
-script_outcome limit w (Run command ∷ lines) =
-    let now = step limit w command in
-    let later = script_outcome limit now.world lines in
-    record { printed = (reply_text w.profile w.decls command now.reply ++ 10 ∷ []) ++ later.printed; world = later.world }
-
--- the document that a script leaves
-abbrev pub document_after : Document → List ScriptLine → Document
-document_after document script = record document { world = (script_outcome version_1.slot_limit document.world script).world }
-
--- what is printed for a document and a script: what the script prints, and the canonical text of the document that it leaves
-abbrev pub scripted_text : Document → List ScriptLine → List ℕ
-scripted_text document script = (script_outcome version_1.slot_limit document.world script).printed ++ text (document_after document script)

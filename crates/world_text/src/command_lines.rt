@@ -1,21 +1,26 @@
-//! The lines of a script, each read from the front of the bytes behind its word.
+//! The lines of a script, each read from the front of the bytes that begin with it.
 
-ghost use Rattle.std.specs.Prelude.{◌<◌, ◌++◌, ℕ, List, length, codes, IfSome, IfNone};
-ghost use Rattle.entity_id.specs.declared.entity.Entity.{Entity};
+ghost use Rattle.std.specs.Prelude.{◌≡◌, ◌∷◌, ℕ, List, IfOk, IfSome, IfNone, IsErrOf};
 ghost use Rattle.world_model.specs.declared.component.Decl.{Decl};
 ghost use Rattle.world_text.specs.declared.script.ScriptLine.{ScriptLine};
+ghost use Rattle.world_text.specs.declared.verbs.Verb.{Verb};
 ghost use Rattle.world_text.specs.Documents.{AreNamedDecls};
 ghost use Rattle.world_text.specs.Formats.{version_1};
 ghost use Rattle.world_text.specs.Reading.{IsAfter};
 ghost use Rattle.world_text.specs.Scripts.{IsLineFirst, first_line, last_line};
-ghost use Rattle.world_text.specs.ScriptReading.{IsEntityLine, IsEntryFirst, IsEntryLine, IsPoolFirst};
+ghost use Rattle.world_text.specs.ScriptReading.{IsLineBehind};
 
-use super::ScriptLine;
-use super::format::VERSION_1;
-use super::row_lines::take_row;
+use super::line_parts::{take_last_entity, take_last_entry, take_last_pool};
+use super::list_lines::{take_of_names, take_view};
+use super::row_commands::{take_of_row, take_patch};
+use super::verbs::{
+    EntityVerb, EntryVerb, PlainVerb, Verb, entity_command, entry_command, plain_command, verb_of,
+};
+use super::watch_lines::{take_unwatch, take_watch};
 use super::words::{after, split_name};
-use entity_id::{Entity, take_entity};
-use world_model::{Command, Decl, read_name};
+use super::{LineFault, ScriptLine};
+use std::alloc::Global;
+use world_model::{Command, Decl};
 
 /// What stands behind the first line of a script, `script`, at the front of a text. None exactly where
 /// the text doesn't begin with it. No memory.
@@ -33,138 +38,96 @@ pub fn after_last_line(text: &[u8]) -> Option<&[u8]>
     after(text, b"end\n")
 }
 
-/// The line of a script that stands at the front of a text, and what stands behind its end. None exactly
-/// where the text begins with none. No memory.
-pub fn take_script_line<'a>(decls: &[Decl], text: &'a [u8]) -> Option<(ScriptLine, &'a [u8])>
+/// The line of a script that stands at the front of a text, and what stands behind its end. `Bad` comes
+/// exactly where the text begins with none, and `OutOfMemory` where memory for a list of components runs
+/// out.
+pub fn take_script_line<'a>(
+    alloc: Global,
+    decls: &[Decl],
+    text: &'a [u8],
+) -> Result<(ScriptLine, &'a [u8]), LineFault>
     requires { AreNamedDecls decls.now }
-    ensures some { IfSome result (λ x. IsLineFirst version_1.profile decls.now text.now x.0 x.1.now) }
-    ensures none { IfNone result ((line : ScriptLine) (rest : List ℕ) →
-        IsLineFirst version_1.profile decls.now text.now line rest → ⊥) }
+    ensures ok { IfOk result (λ x.
+        IsLineFirst version_1.profile decls.now text.now x.0 x.1.now) }
+    ensures bad { IsErrOf result LineFault.Bad → (line : ScriptLine) (rest : List ℕ) →
+        IsLineFirst version_1.profile decls.now text.now line rest → ⊥ }
 {
-    if let Some(rest) = after(text, b"create\n") {
-        return Some((ScriptLine::Run(Command::Create), rest));
-    }
-    if let Some(rest) = after(text, b"emplace ") {
-        return take_emplace(decls, rest);
-    }
-    if let Some(rest) = after(text, b"get ") {
-        return take_get(decls, rest);
-    }
-    if let Some(rest) = after(text, b"remove ") {
-        return take_remove(decls, rest);
-    }
-    if let Some(rest) = after(text, b"destroy ") {
-        return take_destroy(rest);
-    }
-    let rest = after(text, b"valid ")?;
-    take_valid(rest)
+    let (word, behind) = split_name(text);
+    let Some(verb) = verb_of(word) else {
+        return Err(LineFault::Bad);
+    };
+    take_behind(alloc, verb, decls, behind)
 }
 
-fn take_emplace<'a>(decls: &[Decl], text: &'a [u8]) -> Option<(ScriptLine, &'a [u8])>
+// The line that begins with a word, of which the rest stands at the front of a text.
+fn take_behind<'a>(
+    alloc: Global,
+    verb: Verb,
+    decls: &[Decl],
+    text: &'a [u8],
+) -> Result<(ScriptLine, &'a [u8]), LineFault>
     requires { AreNamedDecls decls.now }
-    ensures some { IfSome result (λ x.
-        IsLineFirst version_1.profile decls.now (codes "emplace " ++ text.now) x.0 x.1.now) }
-    ensures none { IfNone result ((line : ScriptLine) (rest : List ℕ) →
-        IsLineFirst version_1.profile decls.now (codes "emplace " ++ text.now) line rest → ⊥) }
+    ensures ok { IfOk result (λ x.
+        IsLineBehind version_1.profile decls.now verb text.now x.0 x.1.now) }
+    ensures bad { IsErrOf result LineFault.Bad → (line : ScriptLine) (rest : List ℕ) →
+        IsLineBehind version_1.profile decls.now verb text.now line rest → ⊥ }
 {
-    let (entity, pool, rest) = take_entry(decls, text)?;
-    let kinds = decls[pool as usize].field_kinds();
-    let (row, rest) = take_row(VERSION_1.profile, kinds, rest)?;
-    Some((
-        ScriptLine::Run(Command::Emplace { entity, pool, row }),
-        rest,
-    ))
+    match verb {
+        Verb::Plain(of) => take_plain(of, text).ok_or(LineFault::Bad),
+        Verb::OfEntity(of) => take_of_entity(of, text).ok_or(LineFault::Bad),
+        Verb::OfEntry(of) => take_of_entry(of, decls, text).ok_or(LineFault::Bad),
+        Verb::OfRow(of) => take_of_row(of, decls, text).ok_or(LineFault::Bad),
+        Verb::OfNames(of) => take_of_names(alloc, of, decls, text),
+        Verb::Patch => take_patch(decls, text).ok_or(LineFault::Bad),
+        Verb::Clear => take_clear(decls, text).ok_or(LineFault::Bad),
+        Verb::View => take_view(alloc, decls, text),
+        Verb::Watch => take_watch(decls, text).ok_or(LineFault::Bad),
+        Verb::Unwatch => take_unwatch(text).ok_or(LineFault::Bad),
+    }
 }
 
-fn take_get<'a>(decls: &[Decl], text: &'a [u8]) -> Option<(ScriptLine, &'a [u8])>
-    requires { AreNamedDecls decls.now }
-    ensures some { IfSome result (λ x.
-        IsLineFirst version_1.profile decls.now (codes "get " ++ text.now) x.0 x.1.now) }
-    ensures none { IfNone result ((line : ScriptLine) (rest : List ℕ) →
-        IsLineFirst version_1.profile decls.now (codes "get " ++ text.now) line rest → ⊥) }
-{
-    let (entity, pool, rest) = take_entry_line(decls, text)?;
-    Some((ScriptLine::Run(Command::Get { entity, pool }), rest))
-}
-
-fn take_remove<'a>(decls: &[Decl], text: &'a [u8]) -> Option<(ScriptLine, &'a [u8])>
-    requires { AreNamedDecls decls.now }
-    ensures some { IfSome result (λ x.
-        IsLineFirst version_1.profile decls.now (codes "remove " ++ text.now) x.0 x.1.now) }
-    ensures none { IfNone result ((line : ScriptLine) (rest : List ℕ) →
-        IsLineFirst version_1.profile decls.now (codes "remove " ++ text.now) line rest → ⊥) }
-{
-    let (entity, pool, rest) = take_entry_line(decls, text)?;
-    Some((ScriptLine::Run(Command::Remove { entity, pool }), rest))
-}
-
-fn take_destroy(text: &[u8]) -> Option<(ScriptLine, &[u8])>
+fn take_plain(verb: PlainVerb, text: &[u8]) -> Option<(ScriptLine, &[u8])>
     ensures some { IfSome result (λ x. (decls : List Decl) →
-        IsLineFirst version_1.profile decls (codes "destroy " ++ text.now) x.0 x.1.now) }
+        IsLineBehind version_1.profile decls (Verb.Plain verb) text.now x.0 x.1.now) }
     ensures none { IfNone result ((decls : List Decl) (line : ScriptLine) (rest : List ℕ) →
-        IsLineFirst version_1.profile decls (codes "destroy " ++ text.now) line rest → ⊥) }
+        IsLineBehind version_1.profile decls (Verb.Plain verb) text.now line rest → ⊥) }
 {
-    let (entity, rest) = take_entity_line(text)?;
-    Some((ScriptLine::Run(Command::Destroy { entity }), rest))
+    let rest = after(text, b"\n")?;
+    Some((ScriptLine::Run(plain_command(verb)), rest))
 }
 
-fn take_valid(text: &[u8]) -> Option<(ScriptLine, &[u8])>
+fn take_of_entity(verb: EntityVerb, text: &[u8]) -> Option<(ScriptLine, &[u8])>
     ensures some { IfSome result (λ x. (decls : List Decl) →
-        IsLineFirst version_1.profile decls (codes "valid " ++ text.now) x.0 x.1.now) }
+        IsLineBehind version_1.profile decls (Verb.OfEntity verb) text.now x.0 x.1.now) }
     ensures none { IfNone result ((decls : List Decl) (line : ScriptLine) (rest : List ℕ) →
-        IsLineFirst version_1.profile decls (codes "valid " ++ text.now) line rest → ⊥) }
+        IsLineBehind version_1.profile decls (Verb.OfEntity verb) text.now line rest → ⊥) }
 {
-    let (entity, rest) = take_entity_line(text)?;
-    Some((ScriptLine::Run(Command::Valid { entity }), rest))
+    let (entity, rest) = take_last_entity(text)?;
+    Some((ScriptLine::Run(entity_command(verb, entity)), rest))
 }
 
-// An identifier up to the end of its line, and what stands behind that.
-fn take_entity_line(text: &[u8]) -> Option<(Entity, &[u8])>
-    ensures some { IfSome result (λ x. IsEntityLine version_1.profile text.now x.0 x.1.now) }
-    ensures none { IfNone result ((entity : Entity) (rest : List ℕ) →
-        IsEntityLine version_1.profile text.now entity rest → ⊥) }
-{
-    let (entity, rest) = take_entity(VERSION_1.profile, text)?;
-    let rest = after(rest, b"\n")?;
-    Some((entity, rest))
-}
-
-// An identifier and a component up to the end of their line, and what stands behind that.
-fn take_entry_line<'a>(decls: &[Decl], text: &'a [u8]) -> Option<(Entity, u32, &'a [u8])>
+fn take_of_entry<'a>(
+    verb: EntryVerb,
+    decls: &[Decl],
+    text: &'a [u8],
+) -> Option<(ScriptLine, &'a [u8])>
     requires { AreNamedDecls decls.now }
     ensures some { IfSome result (λ x.
-        IsEntryLine version_1.profile decls.now text.now x.0 x.1 x.2.now) }
-    ensures none { IfNone result ((entity : Entity) (pool : ℕ) (rest : List ℕ) →
-        IsEntryLine version_1.profile decls.now text.now entity pool rest → ⊥) }
+        IsLineBehind version_1.profile decls.now (Verb.OfEntry verb) text.now x.0 x.1.now) }
+    ensures none { IfNone result ((line : ScriptLine) (rest : List ℕ) →
+        IsLineBehind version_1.profile decls.now (Verb.OfEntry verb) text.now line rest → ⊥) }
 {
-    let (entity, pool, rest) = take_entry(decls, text)?;
-    let rest = after(rest, b"\n")?;
-    Some((entity, pool, rest))
+    let (entity, pool, rest) = take_last_entry(decls, text)?;
+    Some((ScriptLine::Run(entry_command(verb, entity, pool)), rest))
 }
 
-// An identifier, and behind a space a component, and what stands behind its name.
-fn take_entry<'a>(decls: &[Decl], text: &'a [u8]) -> Option<(Entity, u32, &'a [u8])>
+fn take_clear<'a>(decls: &[Decl], text: &'a [u8]) -> Option<(ScriptLine, &'a [u8])>
     requires { AreNamedDecls decls.now }
     ensures some { IfSome result (λ x.
-        IsEntryFirst version_1.profile decls.now text.now x.0 x.1 x.2.now) }
-    ensures within { IfSome result (λ x. x.1 < length decls.now) }
-    ensures none { IfNone result ((entity : Entity) (pool : ℕ) (rest : List ℕ) →
-        IsEntryFirst version_1.profile decls.now text.now entity pool rest → ⊥) }
+        IsLineBehind version_1.profile decls.now Verb.Clear text.now x.0 x.1.now) }
+    ensures none { IfNone result ((line : ScriptLine) (rest : List ℕ) →
+        IsLineBehind version_1.profile decls.now Verb.Clear text.now line rest → ⊥) }
 {
-    let (entity, rest) = take_entity(VERSION_1.profile, text)?;
-    let rest = after(rest, b" ")?;
-    let (pool, rest) = take_pool(decls, rest)?;
-    Some((entity, pool, rest))
-}
-
-// A component by its name, and what stands behind that.
-fn take_pool<'a>(decls: &[Decl], text: &'a [u8]) -> Option<(u32, &'a [u8])>
-    requires { AreNamedDecls decls.now }
-    ensures some { IfSome result (λ x. IsPoolFirst decls.now text.now x.0 x.1.now) }
-    ensures none { IfNone result ((pool : ℕ) (rest : List ℕ) →
-        IsPoolFirst decls.now text.now pool rest → ⊥) }
-{
-    let (name, rest) = split_name(text);
-    let pool = read_name(name, decls)?;
-    Some((pool, rest))
+    let (pool, rest) = take_last_pool(decls, text)?;
+    Some((ScriptLine::Run(Command::Clear { pool }), rest))
 }

@@ -1,5 +1,6 @@
 ghost use Rattle.std.specs.Prelude.{◌≡◌};
 ghost use Rattle.world_text.specs.declared.fault.LineFault.TheVariants as line_fault;
+ghost use Rattle.world_text.specs.declared.fault.TextRefused.TheVariants as text_refused;
 
 use entity_id::OutOfMemory;
 use std::alloc::{AllocError, AllocFailed};
@@ -46,5 +47,21 @@ impl From<OutOfMemory> for LineFault {
 
     fn from(_e: OutOfMemory) -> LineFault {
         LineFault::OutOfMemory
+    }
+}
+
+impl From<OutOfMemory> for TextRefused {
+    ghost from_gives = { λ _ e. e ≡ text_refused.OutOfMemory };
+
+    fn from(_e: OutOfMemory) -> TextRefused {
+        TextRefused::OutOfMemory
+    }
+}
+
+impl<T: Drop> From<AllocFailed<T>> for TextRefused {
+    ghost from_gives = { λ _ e. e ≡ text_refused.OutOfMemory };
+
+    fn from(_e: AllocFailed<T>) -> TextRefused {
+        TextRefused::OutOfMemory
     }
 }

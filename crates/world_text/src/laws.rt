@@ -6,7 +6,8 @@ ghost use Rattle.world_text.specs.declared.document.Document.{Document};
 ghost use Rattle.world_text.specs.declared.script.ScriptLine.{ScriptLine};
 ghost use Rattle.world_text.specs.Documents.{IsDocument, IsBadLine, IsFront, IsBadFront, IsLawfulDocument, text};
 ghost use Rattle.world_text.specs.Formats.{version_1};
-ghost use Rattle.world_text.specs.Scripts.{IsScriptLine, IsScripted, IsBadScriptedLine, document_after};
+ghost use Rattle.world_text.specs.Playing.{document_after};
+ghost use Rattle.world_text.specs.Scripts.{IsScriptLine, IsScripted, IsBadScriptedLine};
 
 /// A text stands for one document at most. No memory.
 pub fn one_document()
@@ -34,19 +35,6 @@ pub fn one_front()
     ensures one { (bytes : List ℕ) (a b : ℕ) → IsBadFront bytes a → IsBadFront bytes b → a ≡ b }
 {}
 
-/// A text is one document with one script at most. No such text has a bad line, and no text has two first
-/// bad lines, counted over document and script together. No memory.
-pub fn one_script()
-    ensures document { (bytes : List ℕ) (a b : Document) (m n : List ScriptLine) →
-        IsScripted bytes a m → IsScripted bytes b n → a ≡ b }
-    ensures script { (bytes : List ℕ) (a b : Document) (m n : List ScriptLine) →
-        IsScripted bytes a m → IsScripted bytes b n → m ≡ n }
-    ensures none { (bytes : List ℕ) (a : Document) (m : List ScriptLine) (number : ℕ) →
-        IsScripted bytes a m → IsBadScriptedLine bytes number → ⊥ }
-    ensures one { (bytes : List ℕ) (a b : ℕ) →
-        IsBadScriptedLine bytes a → IsBadScriptedLine bytes b → a ≡ b }
-{}
-
 /// The canonical text of a lawful document is a document that stands for the same. No memory.
 pub fn printed_text()
     ensures { (document : Document) →
@@ -65,4 +53,15 @@ pub fn scripts_keep_documents_lawful()
         IsLawfulDocument document →
         AllByRecursion (IsScriptLine version_1.profile document.world.decls) script →
         IsLawfulDocument (document_after document script) }
+{}
+
+/// A text stands for one document with one script at most. No such text has a bad line, and no text has
+/// two first bad lines. No memory.
+pub fn one_script()
+    ensures one { (bytes : List ℕ) (a b : Document) (first second : List ScriptLine) →
+        IsScripted bytes a first → IsScripted bytes b second → (a ≡ b) × (first ≡ second) }
+    ensures none { (bytes : List ℕ) (document : Document) (script : List ScriptLine) (number : ℕ) →
+        IsScripted bytes document script → IsBadScriptedLine bytes number → ⊥ }
+    ensures one_bad { (bytes : List ℕ) (a b : ℕ) →
+        IsBadScriptedLine bytes a → IsBadScriptedLine bytes b → a ≡ b }
 {}

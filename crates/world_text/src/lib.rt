@@ -4,6 +4,8 @@
 //! What a document is stands in `specs/`, as a relation on whole lists of lines: `Lines.antt` says
 //! how each line is spelled, `Fitting.antt` where a line is admissible after the lines before it, and
 //! `Documents.antt` which bytes are a document of which world, and which line is the first bad one.
+//! Likewise `Scripts.antt` says how the lines of a script are spelled, which texts are scripts, and which
+//! line is the first bad one, and `Playing.antt` what a script prints and leaves.
 #![tactic(auto)]
 
 mod adding;
@@ -14,20 +16,28 @@ mod fault;
 mod filling;
 mod format;
 mod laws;
+mod line_parts;
+mod list_lines;
 mod name_lines;
+mod name_lists;
 mod number_lines;
 mod printing;
 mod reading;
 mod replies;
+mod row_commands;
 mod row_lines;
 mod script;
+mod scripts;
 mod section;
+mod single;
+mod verbs;
+mod watch_lines;
+mod watch_replies;
 mod words;
 
 pub use command_lines::{after_first_line, after_last_line, take_script_line};
 pub use document::Document;
-use fault::LineFault;
-pub use fault::TextRefused;
+pub use fault::{LineFault, TextRefused};
 pub use format::{Format, VERSION_1};
 pub use laws::{
     documents_are_lawful, one_bad_line, one_document, one_front, one_script, printed_text,
@@ -36,4 +46,10 @@ pub use laws::{
 pub use printing::{push_world, write_world};
 pub use reading::{Front, read_front, read_world};
 pub use replies::push_reply;
-pub use script::ScriptLine;
+pub use script::{Script, ScriptLine};
+pub use scripts::read_script;
+pub use single::read_command;
+pub use watch_replies::{push_heard, push_unwatched, push_watched};
+
+#[cfg(test)]
+mod tests;

@@ -40,7 +40,7 @@ pub fn push_reply(
     }
 }
 
-fn push_words(out: &mut Vec<u8>, words: &[u8]) -> Result<(), OutOfMemory>
+pub(super) fn push_words(out: &mut Vec<u8>, words: &[u8]) -> Result<(), OutOfMemory>
     ensures ok { OnOk result (out.new.items ≡ out.old.items ++ words.now) }
     ensures err { OnErr result (out.new.items ≡ out.old.items) }
 {
@@ -179,7 +179,7 @@ fn push_words_of_list(
 }
 
 // A space and an identifier.
-fn push_item(out: &mut Vec<u8>, entity: Entity) -> Result<(), OutOfMemory>
+pub(super) fn push_item(out: &mut Vec<u8>, entity: Entity) -> Result<(), OutOfMemory>
     ensures ok { OnOk result (out.new.items ≡
         out.old.items ++ 32 ∷ entity_text version_1.profile entity) }
     ensures err { OnErr result (out.new.items ≡ out.old.items) }

@@ -70,7 +70,7 @@ pub fn take_row<'a>(profile: Profile, kinds: &[Kind], text: &'a [u8]) -> Option<
 }
 
 // The field that holds a value of this kind behind a space, and what stands behind it.
-fn take_field(profile: Profile, kind: Kind, text: &[u8]) -> Option<(i64, &[u8])>
+pub fn take_field(profile: Profile, kind: Kind, text: &[u8]) -> Option<(i64, &[u8])>
     ensures some { IfSome result (λ x. IsFieldFirst profile kind text.now x.0 x.1.now) }
     ensures none { IfNone result ((value : FieldValue) (rest : List ℕ) →
         IsValueFirst profile kind text.now value rest → ⊥) }

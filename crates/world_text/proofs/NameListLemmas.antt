@@ -1,0 +1,222 @@
+-- Names of components one after another at the front of a text.
+use Rattle.std.proofs.Common.{◌≡◌, ◌≢◌, ℕ, ◌+◌, ◌<◌, ◌≤◌, leb, Bool, true, false, cond, ◌||◌, inl, inr, List, [], ◌∷◌, ◌++◌, All, drop, get_or, length, length-append, append_assoc, count_by, refl, sym, ap, ap₂, subst, ◌∙◌, arith, codes}
+use Rattle.std.specs.List.{list_any}
+use Rattle.std.specs.Prelude.{◌==◌}
+use Rattle.std.proofs.lemmas.Bool.{cases_Bool, or_cases, or_parts, false≢true, eqb-true, eq-eqb, leb-true, leb-false}
+use Rattle.std.proofs.lemmas.List.{append-nil}
+use Rattle.std.proofs.lemmas.List.Elements.{All-nil, All-cons, All-head, All-tail}
+use Rattle.std.proofs.lemmas.List.Sums.{sum_by-append, sum_by-cons}
+use Rattle.world_model.specs.declared.component.Decl.{Decl}
+use Rattle.world_text.specs.Documents.{AreNamedDecls}
+use Rattle.world_text.specs.Scripts.{AreNamedOnce, name_at, names_text}
+use Rattle.world_text.specs.ScriptReading.{EndsName, ArePoolsNext, AreNamesNext, AreNamesLast, IsPoolNext, IsWithoutLast, is_over}
+use Rattle.world_text.proofs.NameLemmas.{one_pool}
+
+-- ---- one after another
+
+pub pools_push : (decls : List Decl) (text : List ℕ) (pools : List ℕ) (rest : List ℕ) (pool : ℕ) (behind : List ℕ) → ArePoolsNext decls text pools rest → IsPoolNext decls rest pool behind → ArePoolsNext decls text (pools ++ pool ∷ []) behind
+pools_push decls text [] rest pool behind e p = (behind, subst (λ (t : List ℕ). IsPoolNext decls t pool behind) (sym e) p, refl)
+pools_push decls text (q ∷ pools) rest pool behind h p = (h.0, h.1, pools_push decls h.0 pools rest pool behind h.2 p)
+
+-- where further names stand, they follow on those that were read
+pub go_on : (decls : List Decl) (text : List ℕ) (pools : List ℕ) (rest : List ℕ) (all : List ℕ) (more : List ℕ) → AreNamedDecls decls → ArePoolsNext decls text pools rest → ArePoolsNext decls text all more → ((pool : ℕ) (z : List ℕ) → IsPoolNext decls more pool z → ⊥)
+    → (left : List ℕ) × (all ≡ pools ++ left) × ArePoolsNext decls rest left more
+go_on decls text [] rest all more named p q last = (all, refl, subst (λ (t : List ℕ). ArePoolsNext decls t all more) p q)
+go_on decls text (a ∷ pools) rest [] more named p q last = absurd (last a p.0 (subst (λ (t : List ℕ). IsPoolNext decls t a p.0) q p.1))
+go_on decls text (a ∷ pools) rest (b ∷ all) more named p q last =
+    let same = one_pool decls text p.0 q.0 a b named p.1 q.1 in
+    let h = go_on decls p.0 pools rest all more named p.2 (subst (λ (t : List ℕ). ArePoolsNext decls t all more) (sym same.1) q.2) last in
+    (h.0, ap₂ (λ x xs. x ∷ xs) (sym same.0) h.1, h.2)
+
+pub none_left : (decls : List Decl) (rest left more : List ℕ) → ArePoolsNext decls rest left more → ((pool : ℕ) (z : List ℕ) → IsPoolNext decls rest pool z → ⊥) → (left ≡ []) × (rest ≡ more)
+none_left decls rest [] more h last = (refl, h)
+none_left decls rest (pool ∷ left) more h last = absurd (last pool h.0 h.1)
+
+-- a text begins with one list of names
+pub one_names : (decls : List Decl) (others text a x b y : List ℕ) → AreNamedDecls decls → AreNamesNext decls others text a x → AreNamesNext decls others text b y → (a ≡ b) × (x ≡ y)
+one_names decls others text a x b y named p q =
+    let h = go_on decls text a x b y named p.next q.next q.last in
+    let none = none_left decls x h.0 y h.2 p.last in
+    (sym (h.1 ∙ ap (λ left. a ++ left) none.0 ∙ append-nil a), none.1)
+
+-- ---- how often a component is named
+
+-- how often a component is named
+abbrev pub times : ℕ → List ℕ → ℕ
+times pool pools = count_by (λ other. other == pool) pools
+
+abbrev pub one_if : Bool → ℕ
+one_if b = cond b 1 0
+
+pub times-cons : (pool x : ℕ) (pools : List ℕ) → times pool (x ∷ pools) ≡ one_if (x == pool) + times pool pools
+times-cons pool x pools = sum_by-cons (λ other. one_if (other == pool)) x pools
+
+pub times-append : (pool : ℕ) (xs ys : List ℕ) → times pool (xs ++ ys) ≡ times pool xs + times pool ys
+times-append pool xs ys = sum_by-append (λ other. one_if (other == pool)) xs ys
+
+named_counted : (pool : ℕ) (pools : List ℕ) → list_any (λ other. other == pool) pools ≡ true → 1 ≤ times pool pools
+named_counted pool [] h = absurd (false≢true h)
+named_counted pool (x ∷ pools) h =
+    let whole : times pool (x ∷ pools) ≡ one_if (x == pool) + times pool pools = times-cons pool x pools in
+    elim (cases_Bool (x == pool)) [
+      | inl here ↦ (let one : one_if (x == pool) ≡ 1 = ap one_if here in omega arith)
+      | inr other ↦
+          let later : list_any (λ o. o == pool) pools ≡ true = sym (ap (λ b. b || list_any (λ o. o == pool) pools) other) ∙ h in
+          let more : 1 ≤ times pool pools = named_counted pool pools later in
+          omega arith
+    ]
+
+unnamed_counted : (pool : ℕ) (pools : List ℕ) → list_any (λ other. other == pool) pools ≡ false → times pool pools ≡ 0
+unnamed_counted pool [] h = refl
+unnamed_counted pool (x ∷ pools) h =
+    let parts = or_parts (x == pool) (list_any (λ other. other == pool) pools) h in
+    let none : one_if (x == pool) ≡ 0 = ap one_if parts.0 in
+    let later : times pool pools ≡ 0 = unnamed_counted pool pools parts.1 in
+    times-cons pool x pools ∙ omega arith
+
+times_three : (pool next : ℕ) (others pools left : List ℕ) → times pool (others ++ (pools ++ next ∷ left)) ≡ times pool others + (times pool pools + (one_if (next == pool) + times pool left))
+times_three pool next others pools left =
+    times-append pool others (pools ++ next ∷ left)
+    ∙ ap (λ n. times pool others + n) (times-append pool pools (next ∷ left) ∙ ap (λ n. times pool pools + n) (times-cons pool next left))
+
+-- a component that is one too many, or was named, is named by no lawful list
+is_too_many : (others pools left : List ℕ) (pool : ℕ) → is_over others pools pool ≡ true → length others + length (pools ++ pool ∷ left) ≤ 16 → AreNamedOnce (others ++ (pools ++ pool ∷ left)) → ⊥
+is_too_many others pools left pool over few once =
+    let total : times pool (others ++ (pools ++ pool ∷ left)) ≡ times pool others + (times pool pools + (one_if (pool == pool) + times pool left)) = times_three pool pool others pools left in
+    let here : one_if (pool == pool) ≡ 1 = ap one_if (eq-eqb pool pool refl) in
+    let most : times pool (others ++ (pools ++ pool ∷ left)) ≤ 1 = once pool in
+    elim (or_cases (leb 16 (length others + length pools) || list_any (λ other. other == pool) others) (list_any (λ other. other == pool) pools) over) [
+      | inr twice ↦ (let more : 1 ≤ times pool pools = named_counted pool pools twice in omega arith)
+      | inl earlier ↦ elim (or_cases (leb 16 (length others + length pools)) (list_any (λ other. other == pool) others) earlier) [
+        | inr twice ↦ (let more : 1 ≤ times pool others = named_counted pool others twice in omega arith)
+        | inl full ↦ (let many : 16 ≤ length others + length pools = leb-true 16 (length others + length pools) full in omega (arith, length-append pools (pool ∷ left)))
+      ]
+    ]
+
+-- names that were read from the front of a text
+pub record AreNamesTaken (decls : List Decl) (others : List ℕ) (text : List ℕ) (pools rest : List ℕ) : Type 0 where
+  pub next : ArePoolsNext decls text pools rest
+  pub once : AreNamedOnce (others ++ pools)
+  pub few : length others + length pools ≤ 16
+
+-- before the first
+pub none_taken : (decls : List Decl) (others text : List ℕ) → AreNamedOnce others → length others ≤ 16 → AreNamesTaken decls others text [] text
+none_taken decls others text once few = record { next = refl; once = subst AreNamedOnce (sym (append-nil others)) once; few = omega arith }
+
+-- one more
+pub names_push : (decls : List Decl) (others text pools rest : List ℕ) (pool : ℕ) (behind : List ℕ) → AreNamesTaken decls others text pools rest → is_over others pools pool ≡ false → IsPoolNext decls rest pool behind → AreNamesTaken decls others text (pools ++ pool ∷ []) behind
+names_push decls others text pools rest pool behind h within next =
+    let parts = or_parts (leb 16 (length others + length pools) || list_any (λ other. other == pool) others) (list_any (λ other. other == pool) pools) within in
+    let first = or_parts (leb 16 (length others + length pools)) (list_any (λ other. other == pool) others) parts.0 in
+    let room = leb-false 16 (length others + length pools) first.0 in
+    record {
+      next = pools_push decls text pools rest pool behind h.next next;
+      few = omega (arith, room, length-append pools (pool ∷ []));
+      once = λ k.
+          let total : times k (others ++ (pools ++ pool ∷ [])) ≡ times k others + (times k pools + (one_if (pool == k) + 0)) = times_three k pool others pools [] in
+          let split : times k (others ++ pools) ≡ times k others + times k pools = times-append k others pools in
+          let before : times k (others ++ pools) ≤ 1 = h.once k in
+          elim (cases_Bool (pool == k)) [
+            | inr other ↦ (let none : one_if (pool == k) ≡ 0 = ap one_if other in omega arith)
+            | inl same ↦
+                let is : pool ≡ k = eqb-true pool k same in
+                let here : one_if (pool == k) ≡ 1 = ap one_if same in
+                let none_before : times k others ≡ 0 = subst (λ (q : ℕ). times q others ≡ 0) is (unnamed_counted pool others first.1) in
+                let none_here : times k pools ≡ 0 = subst (λ (q : ℕ). times q pools ≡ 0) is (unnamed_counted pool pools parts.1) in
+                omega arith
+          ];
+    }
+
+-- one too many, or named twice: no list of names
+pub no_names : (decls : List Decl) (others text pools rest : List ℕ) (pool : ℕ) (behind : List ℕ) → AreNamedDecls decls → AreNamesTaken decls others text pools rest → IsPoolNext decls rest pool behind → is_over others pools pool ≡ true → (all more : List ℕ) → AreNamesNext decls others text all more → ⊥
+no_names decls others text pools rest pool behind named h next over all more q =
+    let g = go_on decls text pools rest all more named h.next q.next q.last in
+    elim g.0 as (λ left. all ≡ pools ++ left → ArePoolsNext decls rest left more → ⊥) [
+      | [] ↦ λ e none. q.last pool behind (subst (λ (t : List ℕ). IsPoolNext decls t pool behind) none next)
+      | (p ∷ left) ↦ λ e of.
+          let same = one_pool decls rest behind of.0 pool p named next of.1 in
+          let whole : all ≡ pools ++ pool ∷ left = e ∙ ap (λ (k : ℕ). pools ++ k ∷ left) (sym same.0) in
+          is_too_many others pools left pool over (subst (λ (l : List ℕ). length others + length l ≤ 16) whole q.few) (subst (λ (l : List ℕ). AreNamedOnce (others ++ l)) whole q.once)
+    ] g.1 g.2
+
+-- behind a name fewer bytes are left
+pub shorter : (decls : List Decl) (text : List ℕ) (pool : ℕ) (rest : List ℕ) → IsPoolNext decls text pool rest → length rest < length text
+shorter decls text pool rest next = omega (arith, ap length next.whole, length-append (name_at decls pool) rest)
+
+-- ---- up to the end of a line
+
+-- names, but not up to the end of a line
+pub no_line_end : (decls : List Decl) (others text pools rest : List ℕ) → AreNamedDecls decls → AreNamesNext decls others text pools rest → ((more : List ℕ) → rest ≢ codes "\n" ++ more) → (all more : List ℕ) → AreNamesLast decls others text all more → ⊥
+no_line_end decls others text pools rest named first none all more q = none more (one_names decls others text pools rest all (10 ∷ more) named first q.names).1
+
+-- no name at all
+pub no_first_name : (decls : List Decl) (others text pools rest : List ℕ) → AreNamedDecls decls → AreNamesNext decls others text pools rest → length pools ≡ 0 → (all more : List ℕ) → AreNamesNext decls others text all more → 0 < length all → ⊥
+no_first_name decls others text pools rest named first empty all more q some = omega (arith, ap length (one_names decls others text pools rest all more named first q).0)
+
+-- ---- names as text
+
+names_end : (decls : List Decl) (pools rest : List ℕ) → EndsName rest → EndsName (names_text decls pools ++ rest)
+names_end decls [] rest ended = ended
+names_end decls (pool ∷ pools) rest ended = refl
+
+-- names that a text spells stand one after another at its front
+pub pools_of_text : (decls : List Decl) (text pools rest : List ℕ) → All (λ pool. pool < length decls) pools → EndsName rest → text ≡ names_text decls pools ++ rest → ArePoolsNext decls text pools rest
+pools_of_text decls text [] rest declared ended e = e
+pools_of_text decls text (pool ∷ pools) rest declared ended e =
+    let behind = names_text decls pools ++ rest in (
+      behind,
+      record {
+        declared = All-head (λ pool. pool < length decls) pool pools declared;
+        whole = e ∙ append_assoc (32 ∷ name_at decls pool) (names_text decls pools) rest;
+        ended = names_end decls pools rest ended;
+      },
+      pools_of_text decls behind pools rest (All-tail (λ pool. pool < length decls) pool pools declared) ended refl,
+    )
+
+pub pools_spelled : (decls : List Decl) (text pools rest : List ℕ) → ArePoolsNext decls text pools rest → text ≡ names_text decls pools ++ rest
+pools_spelled decls text [] rest e = e
+pools_spelled decls text (pool ∷ pools) rest h =
+    h.1.whole ∙ ap (λ (t : List ℕ). 32 ∷ (name_at decls pool ++ t)) (pools_spelled decls h.0 pools rest h.2)
+    ∙ sym (append_assoc (32 ∷ name_at decls pool) (names_text decls pools) rest)
+
+pub pools_declared : (decls : List Decl) (text pools rest : List ℕ) → ArePoolsNext decls text pools rest → All (λ pool. pool < length decls) pools
+pools_declared decls text [] rest e = All-nil (λ pool. pool < length decls)
+pools_declared decls text (pool ∷ pools) rest h = All-cons (λ pool. pool < length decls) pool pools h.1.declared (pools_declared decls h.0 pools rest h.2)
+
+-- no name stands at a line's end
+pub end_is_no_name : (decls : List Decl) (rest : List ℕ) (pool : ℕ) (more : List ℕ) → IsPoolNext decls (10 ∷ rest) pool more → ⊥
+end_is_no_name decls rest pool more h = omega (arith, ap (λ (t : List ℕ). get_or t 0 0) h.whole)
+
+-- ---- what a view leaves out
+
+pub leaves_nothing : (decls : List Decl) (others text pools rest : List ℕ) → AreNamedOnce others → length others ≤ 16 → text ≡ 10 ∷ rest → pools ≡ [] → IsWithoutLast decls others text pools rest
+leaves_nothing decls others text pools rest once few spelled none =
+    subst (λ (ps : List ℕ). IsWithoutLast decls others text ps rest) (sym none)
+    (record {
+      declared = All-nil (λ pool. pool < length decls);
+      once = subst AreNamedOnce (sym (append-nil others)) once;
+      few = omega arith;
+      whole = spelled;
+    })
+
+pub leaves_names : (decls : List Decl) (others text behind pools rest : List ℕ) → text ≡ codes " not" ++ behind → AreNamesLast decls others behind pools rest → IsWithoutLast decls others text pools rest
+leaves_names decls others text behind [] rest spelled last = absurd (omega (arith, last.some))
+leaves_names decls others text behind (pool ∷ pools) rest spelled last = record {
+  declared = pools_declared decls behind (pool ∷ pools) (10 ∷ rest) last.names.next;
+  once = last.names.once;
+  few = last.names.few;
+  whole = spelled ∙ ap (λ (t : List ℕ). codes " not" ++ t) (pools_spelled decls behind (pool ∷ pools) (10 ∷ rest) last.names.next);
+}
+
+pub no_left_out : (decls : List Decl) (others text behind : List ℕ) → ((more : List ℕ) → text ≢ codes "\n" ++ more) → text ≡ codes " not" ++ behind → ((pools rest : List ℕ) → AreNamesLast decls others behind pools rest → ⊥) → (pools rest : List ℕ) → IsWithoutLast decls others text pools rest → ⊥
+no_left_out decls others text behind no_end spelled none [] rest h = no_end rest h.whole
+no_left_out decls others text behind no_end spelled none (pool ∷ pools) rest h =
+    none (pool ∷ pools) rest (record {
+      names = record {
+        next = pools_of_text decls behind (pool ∷ pools) (10 ∷ rest) h.declared refl (ap (drop 4) (sym spelled ∙ h.whole));
+        once = h.once;
+        few = h.few;
+        last = end_is_no_name decls rest;
+      };
+      some = omega arith;
+    })

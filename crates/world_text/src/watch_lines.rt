@@ -1,0 +1,66 @@
+//! Lines of a script that begin and end watches.
+
+ghost use Rattle.std.specs.Prelude.{◌≡◌, ◌≢◌, ◌++◌, ◌∷◌, ℕ, List, IfSome, IfNone, MatchOption};
+ghost use Rattle.world_model.specs.declared.component.Decl.{Decl};
+ghost use Rattle.world_model.specs.declared.event.EventKind.{EventKind};
+ghost use Rattle.world_text.specs.declared.script.ScriptLine.{ScriptLine};
+ghost use Rattle.world_text.specs.declared.verbs.Verb.{Verb};
+ghost use Rattle.world_text.specs.Documents.{AreNamedDecls};
+ghost use Rattle.world_text.specs.Formats.{version_1};
+ghost use Rattle.world_text.specs.Scripts.{event_word};
+ghost use Rattle.world_text.specs.ScriptReading.{IsLineBehind};
+
+use super::ScriptLine;
+use super::line_parts::take_last_pool;
+use super::verbs::Verb;
+use super::words::after;
+use entity_id::take_nat;
+use world_model::{Decl, EventKind};
+
+// The greatest number in an `unwatch` line.
+const UNWATCH_LIMIT: u64 = 4_294_967_295;
+
+/// The line of the word `watch`, and what stands behind its end.
+pub fn take_watch<'a>(decls: &[Decl], text: &'a [u8]) -> Option<(ScriptLine, &'a [u8])>
+    requires { AreNamedDecls decls.now }
+    ensures some { IfSome result (λ x.
+        IsLineBehind version_1.profile decls.now Verb.Watch text.now x.0 x.1.now) }
+    ensures none { IfNone result ((line : ScriptLine) (rest : List ℕ) →
+        IsLineBehind version_1.profile decls.now Verb.Watch text.now line rest → ⊥) }
+{
+    let (kind, rest) = take_kind(text)?;
+    let (pool, rest) = take_last_pool(decls, rest)?;
+    Some((ScriptLine::Watch { kind, pool }, rest))
+}
+
+// A kind of events behind a space, and what stands behind it.
+fn take_kind(text: &[u8]) -> Option<(EventKind, &[u8])>
+    ensures { MatchOption result
+        ((kind : EventKind) (rest : List ℕ) → text.now ≢ 32 ∷ (event_word kind ++ rest))
+        (λ x. text.now ≡ 32 ∷ (event_word x.0 ++ x.1.now)) }
+{
+    if let Some(rest) = after(text, b" construct") {
+        return Some((EventKind::Construct, rest));
+    }
+    if let Some(rest) = after(text, b" update") {
+        return Some((EventKind::Update, rest));
+    }
+    if let Some(rest) = after(text, b" destroy") {
+        return Some((EventKind::Destroy, rest));
+    }
+    None
+}
+
+/// The line of the word `unwatch`, and what stands behind its end.
+pub fn take_unwatch(text: &[u8]) -> Option<(ScriptLine, &[u8])>
+    ensures some { IfSome result (λ x. (decls : List Decl) →
+        IsLineBehind version_1.profile decls Verb.Unwatch text.now x.0 x.1.now) }
+    ensures none { IfNone result ((decls : List Decl) (line : ScriptLine) (rest : List ℕ) →
+        IsLineBehind version_1.profile decls Verb.Unwatch text.now line rest → ⊥) }
+{
+    let text = after(text, b" ")?;
+    let (number, rest) = take_nat(text, UNWATCH_LIMIT)?;
+    let rest = after(rest, b"\n")?;
+    let number = number as u32;
+    Some((ScriptLine::Unwatch { number }, rest))
+}
