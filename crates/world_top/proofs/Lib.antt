@@ -1,5 +1,11 @@
-pub mod ErasingLemmas
+pub mod ConnectLemmas
+pub mod DisconnectLemmas
 pub mod FrontLemmas
+pub mod HearingLemmas
+pub mod LastWatches
 pub mod LiveLemmas
-pub mod MapListLemmas
 pub mod PlayLemmas
+pub mod ProgressLemmas
+pub mod ScriptedLemmas
+pub mod TickLemmas
+pub mod WatchParts

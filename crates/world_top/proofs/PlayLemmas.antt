@@ -1,172 +1,115 @@
 -- How far a script was played.
-use Rattle.std.proofs.Common.{◌≡◌, ◌≢◌, inl, inr, ℕ, ◌+◌, ◌≤◌, List, [], ◌∷◌, ◌++◌, length, length-append, refl, sym, ap, ◌∙◌, subst, arith, append_assoc}
-use Rattle.std.specs.List.{AllByRecursion, flat_map}
-use Rattle.std.proofs.lemmas.List.{append-nil}
-use Rattle.std.proofs.lemmas.Grind.{flat_map-append}
-use Rattle.entity_id.specs.declared.entity.Profile.{Profile}
+use Rattle.std.proofs.Common.{◌≡◌, inr, refl, sym, ap, subst, ◌∙◌, ℕ, ◌<◌, List, [], ◌∷◌, ◌++◌, length, slice_get, slice_set, Some, None, true, false, if◌then◌else◌, arith, nat_lt}
 use Rattle.entity_id.specs.Identifiers.{p20_12}
-use Rattle.entity_id.proofs.ListLemmas.{all-append}
-use Rattle.world_model.specs.declared.command.Command.{Command}
-use Rattle.world_model.specs.declared.command.Reply.{Reply}
-use Rattle.world_model.specs.declared.component.Decl.{Decl}
-use Rattle.world_model.specs.declared.world.World.{World}
-use Rattle.world_model.specs.Steps.{step}
-use Rattle.world_model.specs.Worlds.{IsLawful}
-use Rattle.world_model.proofs.StepLaw.{step_lawful}
-use Rattle.world_text.specs.declared.script.ScriptLine.{ScriptLine}
-use Rattle.world_text.specs.declared.script.ScriptLine.TheVariants.{Run}
 use Rattle.world_text.specs.declared.document.Document.{Document}
 use Rattle.world_text.specs.declared.fault.TextRefused.{TextRefused}
 use Rattle.world_text.specs.declared.fault.TextRefused.TheVariants.{BadLine, OutOfMemory}
+use Rattle.world_text.specs.Documents.{IsFrontOf}
+use Rattle.world_text.specs.Formats.{version_1}
 use Rattle.world_text.specs.Refusals.{IsScriptCause}
+use Rattle.std.specs.Prelude.{count_by}
+use Rattle.std.proofs.lemmas.Bool.{lt-ltb, le-ltb}
+use Rattle.std.proofs.lemmas.Option.{slice_get_within}
+use Rattle.entity_id.specs.declared.entity.Entity.{Entity}
+use Rattle.registry.specs.Held.{Held, Does, reply_to}
+use Rattle.registry.specs.Listeners.{listeners_at}
+use Rattle.signal_sink.specs.Hearings.{listener_limit}
+use Rattle.entity_id.specs.declared.entity.Profile.{Profile}
+use Rattle.world_model.specs.declared.command.Command.{Command}
+use Rattle.world_model.specs.declared.command.Reply.{Reply}
+use Rattle.world_model.specs.declared.component.Decl.{Decl}
+use Rattle.world_model.specs.declared.event.EventKind.{EventKind}
+use Rattle.world_model.specs.declared.refusal.Refusal.TheVariants as refusal
+use Rattle.world_model.specs.Steps.{step}
+use Rattle.world_text.specs.declared.script.ScriptLine.TheVariants.{Run, Watch as WatchLine, Unwatch as UnwatchLine}
+use Rattle.world_text.specs.Playing.{Watching, ScriptOutcome, line_outcome, new_watch, ended, is_watch_of, watch_limit, watch_lines, unwatch_found, unwatch_outcome}
+use Rattle.world_text.specs.Replies.{reply_text, refusal_text, watched_text, unwatched_text, heard_text}
+use Rattle.world_text.specs.Scripts.{IsCommandLine}
+use Rattle.world_text.proofs.ScriptLemmas.{step_keeps}
+use Rattle.world_top.specs.declared.watching.Watch.{Watch}
+use Rattle.world_top.specs.Watched.{AreWatched}
+use Rattle.world_top.specs.Playing.{IsAt, Plays}
+use Rattle.world_top.proofs.ConnectLemmas.{Connects, connected}
+use Rattle.world_top.proofs.HearingLemmas.{stepped}
+use Rattle.world_top.proofs.DisconnectLemmas.{item_at}
 use Rattle.world_top.specs.declared.verb.Verb.TheVariants.{Apply}
 use Rattle.world_top.specs.Output.{IsInputCause}
-use Rattle.world_text.specs.Documents.{IsFrontOf, IsLawfulDocument, text}
-use Rattle.world_text.specs.Formats.{version_1}
-use Rattle.world_text.specs.Replies.{reply_text}
-use Rattle.world_text.specs.Scripts.{IsScriptLine, IsCommandLine, IsLineFirst, IsScript, IsBadScriptLine, ScriptOutcome, document_after, scripted_text, begun_text, first_line, last_line, command_text, script_line_text, script_outcome}
-use Rattle.world_text.proofs.ScriptLemmas.{step_keeps, after_is_lawful, line_allowed, world-push, printed-push}
-use Rattle.world_top.specs.declared.live_world.LiveWorld.{LiveWorld}
-use Rattle.world_top.specs.LiveWorlds.{world_of, IsKept, Does}
-use Rattle.world_top.specs.Playing.{Plays, behind_lines}
-
--- lines at the front of a script were played, and this stands behind them
-pub record HasPlayed (old new : LiveWorld) (before after text : List ℕ) (count : ℕ) (rest : List ℕ) : Type 0 where
-  pub lines : List ScriptLine
-  pub counted : count ≡ length lines
-  pub each : AllByRecursion (IsScriptLine p20_12 old.decls) lines
-  pub spelled : text ≡ begun_text p20_12 old.decls lines ++ rest
-  pub plays : Plays old new before after lines
-  pub kept : IsKept new
-  pub decls : new.decls ≡ old.decls
-  pub profile : new.slots.profile ≡ p20_12
-
--- before the first line
-pub none_played : (old : LiveWorld) (before text behind : List ℕ) → text ≡ first_line ++ behind → IsKept old → old.slots.profile ≡ p20_12 → HasPlayed old old before before text 0 behind
-none_played old before text behind spelled kept profile = record {
-  lines = [];
-  counted = refl;
-  each = tt;
-  spelled = spelled ∙ ap (λ (x : List ℕ). x ++ behind) (sym (append-nil first_line));
-  plays = record { limit = refl; world_is = refl; printed = sym (append-nil before) };
-  kept = kept;
-  decls = refl;
-  profile = profile;
-}
-
--- one command was run, and its reply was printed
-pub one_played : (live new : LiveWorld) (c : Command) (reply : Reply) (before after : List ℕ) → IsKept live → live.slots.profile ≡ p20_12 → IsCommandLine p20_12 live.decls c → Does live new c reply → after ≡ before ++ (reply_text p20_12 new.decls c reply ++ 10 ∷ []) → Plays live new before after (Run c ∷ [])
-one_played live new c reply before after kept profile is does printed =
-    let w = world_of live in
-    let line : IsCommandLine w.profile w.decls c = subst (λ (p : Profile). IsCommandLine p w.decls c) (sym profile) is in
-    let keeps = step_keeps live.slots.limit w c line in
-    let decls : new.decls ≡ live.decls = ap (λ (v : World). v.decls) does.world_is ∙ keeps.decls in
-    record {
-      limit = does.limit;
-      world_is = does.world_is;
-      printed = printed ∙ ap (λ (x : List ℕ). before ++ x)
-          ((λ i. reply_text (sym profile i) (decls i) c (does.reply_is i) ++ 10 ∷ []) ∙ sym (append-nil (reply_text w.profile w.decls c (step live.slots.limit w c).reply ++ 10 ∷ [])));
-    }
-
-pub one_kept : (live new : LiveWorld) (c : Command) (reply : Reply) → IsKept live → live.slots.profile ≡ p20_12 → IsCommandLine p20_12 live.decls c → Does live new c reply → IsKept new
-one_kept live new c reply kept profile is does =
-    let w = world_of live in
-    let line : IsCommandLine w.profile w.decls c = subst (λ (p : Profile). IsCommandLine p w.decls c) (sym profile) is in
-    subst (λ (n : ℕ). IsLawful n (world_of new)) (sym does.limit)
-    (subst (IsLawful live.slots.limit) (sym does.world_is) (step_lawful live.slots.limit w c kept (line_allowed w c line)))
-
--- a line of a script is no empty text
-pub behind_is_shorter : (decls : List Decl) (line : ScriptLine) (text behind : List ℕ) → IsLineFirst p20_12 decls text line behind → length behind + 1 ≤ length text
-behind_is_shorter decls (Run c) text behind first =
-    let line = command_text p20_12 decls c in
-    omega (arith, ap (λ (x : List ℕ). length x) first.spelled, length-append (line ++ 10 ∷ []) behind, length-append line (10 ∷ []))
-
--- one line more
-pub more_played : (old live new : LiveWorld) (before between after text : List ℕ) (count : ℕ) (rest behind : List ℕ) (line : ScriptLine) → HasPlayed old live before between text count rest → IsLineFirst p20_12 live.decls rest line behind → IsKept new → Plays live new between after (line ∷ []) → HasPlayed old new before after text (count + 1) behind
-more_played old live new before between after text count rest behind (Run c) h first kept one =
-    let limit = old.slots.limit in
-    let w = world_of old in
-    let lines = h.lines ++ Run c ∷ [] in
-    let is : IsCommandLine p20_12 old.decls c = subst (λ (d : List Decl). IsCommandLine p20_12 d c) h.decls first.is in
-    let spelled : rest ≡ script_line_text p20_12 old.decls (Run c) ++ behind = subst (λ (d : List Decl). rest ≡ script_line_text p20_12 d (Run c) ++ behind) h.decls first.spelled in
-    let v = (script_outcome limit w h.lines).world in
-    let same : world_of live ≡ v = h.plays.world_is in
-    let stepped : (step live.slots.limit (world_of live) c).world ≡ (step limit v c).world = λ i. (step (h.plays.limit i) (same i) c).world in
-    let world_is : world_of new ≡ (script_outcome limit w lines).world = one.world_is ∙ stepped ∙ sym (world-push limit w h.lines c) in
-    let live_line : IsCommandLine (world_of live).profile (world_of live).decls c = subst (λ (p : Profile). IsCommandLine p live.decls c) (sym h.profile) first.is in
-    let keeps = step_keeps live.slots.limit (world_of live) c live_line in
-    let decls : new.decls ≡ live.decls = ap (λ (u : World). u.decls) one.world_is ∙ keeps.decls in
-    let profile : new.slots.profile ≡ live.slots.profile = ap (λ (u : World). u.profile) one.world_is ∙ keeps.profile in
-    let reply : (script_outcome live.slots.limit (world_of live) (Run c ∷ [])).printed ≡ reply_text v.profile v.decls c (step limit v c).reply ++ 10 ∷ [] =
-    append-nil _ ∙ (λ i. reply_text (same i).profile (same i).decls c (step (h.plays.limit i) (same i) c).reply ++ 10 ∷ []) in
-    record {
-      lines = lines;
-      counted = omega (arith, h.counted, length-append h.lines (Run c ∷ []));
-      each = all-append (IsScriptLine p20_12 old.decls) h.lines (Run c ∷ []) h.each (is, tt);
-      spelled = h.spelled ∙ ap (λ (x : List ℕ). begun_text p20_12 old.decls h.lines ++ x) spelled ∙ sym (append_assoc (begun_text p20_12 old.decls h.lines) (script_line_text p20_12 old.decls (Run c)) behind)
-          ∙ ap (λ (x : List ℕ). x ++ behind) (append_assoc first_line (flat_map (script_line_text p20_12 old.decls) h.lines) (script_line_text p20_12 old.decls (Run c))
-          ∙ ap (λ (x : List ℕ). first_line ++ x) (sym (flat_map-append (script_line_text p20_12 old.decls) h.lines (Run c ∷ []) ∙ ap (λ (x : List ℕ). flat_map (script_line_text p20_12 old.decls) h.lines ++ x) (append-nil (script_line_text p20_12 old.decls (Run c))))));
-      plays = record {
-        limit = one.limit ∙ h.plays.limit;
-        world_is = world_is;
-        printed = one.printed ∙ (λ i. h.plays.printed i ++ reply i) ∙ append_assoc before (script_outcome limit w h.lines).printed _
-            ∙ ap (λ (x : List ℕ). before ++ x) (sym (printed-push limit w h.lines c));
-      };
-      kept = kept;
-      decls = decls ∙ h.decls;
-      profile = profile ∙ h.profile;
-    }
-
--- what stands behind the lines is the end
-pub whole_played : (old new : LiveWorld) (before after text : List ℕ) (count : ℕ) (rest behind : List ℕ) (h : HasPlayed old new before after text count rest) → rest ≡ last_line ++ behind → behind ≡ [] → IsScript p20_12 old.decls text h.lines
-whole_played old new before after text count rest behind h ends nothing = record {
-  each = h.each;
-  spelled = h.spelled ∙ ap (λ (x : List ℕ). begun_text p20_12 old.decls h.lines ++ x) (ends ∙ ap (λ (x : List ℕ). last_line ++ x) nothing ∙ append-nil last_line);
-}
-
--- no line of a script stands behind the lines, and not its end
-pub bad_line : (old new : LiveWorld) (before after text : List ℕ) (count : ℕ) (rest : List ℕ) → HasPlayed old new before after text count rest → ((line : ScriptLine) (more : List ℕ) → IsLineFirst p20_12 new.decls rest line more → ⊥) → ((more : List ℕ) → rest ≢ last_line ++ more) → IsBadScriptLine p20_12 old.decls text (count + 2)
-bad_line old new before after text count rest h no_line no_end = inr (inl (
-  h.lines,
-  rest,
-  omega (arith, h.counted),
-  record {
-    begun = record { each = h.each; spelled = h.spelled };
-    no_line = λ line more first. no_line line more (subst (λ (d : List Decl). IsLineFirst p20_12 d rest line more) (sym h.decls) first);
-    no_end = no_end;
-  },
-))
-
--- something stands behind the end
-pub bad_end : (old new : LiveWorld) (before after text : List ℕ) (count : ℕ) (rest behind : List ℕ) → HasPlayed old new before after text count rest → rest ≡ last_line ++ behind → behind ≢ [] → IsBadScriptLine p20_12 old.decls text (count + 3)
-bad_end old new before after text count rest behind h ends more = inr (inr (
-  h.lines,
-  behind,
-  omega (arith, h.counted),
-  record {
-    begun = record { each = h.each; spelled = h.spelled ∙ ap (λ (x : List ℕ). begun_text p20_12 old.decls h.lines ++ x) ends };
-    more = more;
-  },
-))
-
--- a whole script was played on the world of a document
-pub record Leaves (document : Document) (script : List ℕ) (new : LiveWorld) (printed : List ℕ) (lines : List ScriptLine) : Type 0 where
-  pub is_script : IsScript p20_12 document.world.decls script lines
-  pub lawful : IsLawfulDocument (record { world = world_of new })
-  pub text_is : printed ++ text (record { world = world_of new }) ≡ scripted_text document lines
-
-pub played_document : (document : Document) (live new : LiveWorld) (script printed : List ℕ) (lines : List ScriptLine) → IsLawfulDocument document → world_of live ≡ document.world → live.slots.limit ≡ version_1.slot_limit → IsScript p20_12 live.decls script lines → Plays live new [] printed lines → Leaves document script new printed lines
-played_document document live new script printed lines lawful same limit is plays =
-    let is_script = subst (λ (w : World). IsScript p20_12 w.decls script lines) same is in
-    let outcome : script_outcome live.slots.limit (world_of live) lines ≡ script_outcome version_1.slot_limit document.world lines = λ i. script_outcome (limit i) (same i) lines in
-    let left : record { world = world_of new } ≡ document_after document lines = ap (λ (w : World). record { world = w }) (plays.world_is ∙ ap (λ (o : ScriptOutcome). o.world) outcome) in
-    record {
-      is_script = is_script;
-      lawful = subst IsLawfulDocument (sym left) (after_is_lawful document lines lawful is_script.each);
-      text_is = (λ i. (plays.printed ∙ ap (λ (o : ScriptOutcome). o.printed) outcome) i ++ text (left i));
-    }
+use Rattle.world_top.specs.Playing.{behind_lines}
 
 -- what is wrong with the script behind a document is wrong with the input
 pub cause_behind : (input : List ℕ) (document : Document) (lines : ℕ) (script : List ℕ) (cause : TextRefused) → IsFrontOf version_1 input document lines script → IsScriptCause p20_12 document.world.decls script cause → IsInputCause Apply input (behind_lines lines cause)
 cause_behind input document lines script (BadLine line) front bad = inr (record { document = document; count = lines; rest = script; front = front; number_there = line; bad = bad; counted = refl })
 cause_behind input document lines script OutOfMemory front bad = tt
+
+-- a command was carried out, and its reply was printed
+pub ran : (old new : Held) (command : Command) (reply : Reply) (decls : List Decl) (before after : List ℕ) (watches : List Watch) → old.world.decls ≡ decls → old.world.profile ≡ p20_12 → IsCommandLine p20_12 decls command → Does old new command → reply ≡ reply_to old command → after ≡ before ++ (reply_text p20_12 decls command reply ++ 10 ∷ []) → Plays old new watches watches before after (Run command)
+ran old new command reply decls before after watches same profile is does is_reply printed its h =
+    let w = old.world in
+    let line : IsCommandLine w.profile w.decls command = subst (λ (p : Profile). IsCommandLine p w.decls command) (sym profile) (subst (λ (ds : List Decl). IsCommandLine p20_12 ds command) (sym same) is) in
+    record {
+      limit_is = does.limit;
+      world_is = does.world;
+      watched = stepped old new (step old.limit w command).world (step old.limit w command).events watches its h does (step_keeps old.limit w command line).decls;
+      printed = printed ∙ (λ i. before ++ (reply_text (sym profile i) (sym same i) command (is_reply i) ++ 10 ∷ []));
+    }
+
+-- a watch began, and its number was printed
+pub began : (old new : Held) (watches : List Watch) (kind : EventKind) (pool number : ℕ) (before after : List ℕ) → pool < length old.world.decls → Connects old new kind pool number → length (listeners_at old kind pool) < listener_limit → after ≡ before ++ (watched_text (length watches) ++ 10 ∷ []) → Plays old new watches (watches ++ record { kind = kind; pool = pool; number = number; stands = true } ∷ []) before after (WatchLine kind pool)
+began old new watches kind pool number before after low c room printed its h =
+    let few : nat_lt (count_by (is_watch_of kind pool) its) watch_limit ≡ true = lt-ltb _ _ (omega (arith, room, h.listeners kind pool low)) in
+    let outcome : ScriptOutcome = record { printed = watched_text (length its) ++ 10 ∷ []; world = old.world; watches = its ++ new_watch kind pool ∷ [] } in
+    let is : outcome ≡ line_outcome old.limit old.world its (WatchLine kind pool) =
+    ap (λ b. if b then outcome else record { printed = refusal_text refusal.TooMany ++ 10 ∷ []; world = old.world; watches = its }) (sym few) in
+    subst (IsAt old.limit new (watches ++ record { kind = kind; pool = pool; number = number; stands = true } ∷ []) before after) is (record {
+      limit_is = c.rewired.limit;
+      world_is = c.rewired.world;
+      watched = connected old new watches its kind pool number h c low;
+      printed = printed ∙ ap (λ n. before ++ (watched_text n ++ 10 ∷ [])) h.counted;
+    })
+
+-- too many watches began before
+pub too_many : (old : Held) (watches : List Watch) (kind : EventKind) (pool : ℕ) (before after : List ℕ) → pool < length old.world.decls → length (listeners_at old kind pool) ≡ listener_limit → after ≡ before ++ (refusal_text refusal.TooMany ++ 10 ∷ []) → Plays old old watches watches before after (WatchLine kind pool)
+too_many old watches kind pool before after low full printed its h =
+    let many : nat_lt (count_by (is_watch_of kind pool) its) watch_limit ≡ false = le-ltb _ _ (omega (arith, full, h.listeners kind pool low)) in
+    let outcome : ScriptOutcome = record { printed = refusal_text refusal.TooMany ++ 10 ∷ []; world = old.world; watches = its } in
+    let is : outcome ≡ line_outcome old.limit old.world its (WatchLine kind pool) =
+    ap (λ b. if b then record { printed = watched_text (length its) ++ 10 ∷ []; world = old.world; watches = its ++ new_watch kind pool ∷ [] } else outcome) (sym many) in
+    subst (IsAt old.limit old watches before after) is (record { limit_is = refl; world_is = refl; watched = h; printed = printed })
+
+-- no watch of this number stands
+pub unknown : (old : Held) (watches : List Watch) (number : ℕ) (before after : List ℕ) → ((w : Watch) → slice_get watches number ≡ Some w → w.stands ≡ false) → after ≡ before ++ (refusal_text refusal.Unknown ++ 10 ∷ []) → Plays old old watches watches before after (UnwatchLine number)
+unknown old watches number before after none printed its h =
+    let outcome : ScriptOutcome = record { printed = refusal_text refusal.Unknown ++ 10 ∷ []; world = old.world; watches = its } in
+    let is : IsAt old.limit old watches before after outcome = record { limit_is = refl; world_is = refl; watched = h; printed = printed } in
+    elim (slice_get its number) as (λ o. slice_get its number ≡ o → IsAt old.limit old watches before after (unwatch_outcome old.world its number o)) [
+      | None ↦ λ _. is
+      | Some s ↦ λ at.
+          let w = item_at watches number (omega (arith, h.counted, slice_get_within its number s at)) in
+          let over : s.stands ≡ false = sym (h.each number w.item s w.at at).stands ∙ none w.item w.at in
+          let same : outcome ≡ unwatch_found old.world its number s =
+          ap (λ b. if b then record { printed = (unwatched_text (length s.heard) ++ 10 ∷ []) ++ watch_lines old.world.profile old.world.decls number s; world = old.world; watches = slice_set its number (ended s) } else outcome) (sym over) in
+          subst (IsAt old.limit old watches before after) same is
+    ] refl
+
+-- a watch ended, and what it heard was printed
+pub unwatched : (old new : Held) (watches left : List Watch) (number : ℕ) (w : Watch) (decls : List Decl) (heard : List Entity) (before after : List ℕ) → slice_get watches number ≡ Some w → w.stands ≡ true → old.world.decls ≡ decls → old.world.profile ≡ p20_12 → new.world ≡ old.world → new.limit ≡ old.limit
+    → ((its : List Watching) (ends : Watching) → AreWatched old watches its → slice_get its number ≡ Some ends → heard ≡ ends.heard)
+    → ((its : List Watching) (ends : Watching) → AreWatched old watches its → slice_get its number ≡ Some ends → AreWatched new left (slice_set its number (ended ends)))
+    → after ≡ before ++ ((unwatched_text (length heard) ++ 10 ∷ []) ++ heard_text p20_12 decls number w.kind w.pool heard)
+    → Plays old new watches left before after (UnwatchLine number)
+unwatched old new watches left number w decls heard before after at stands same profile world limit heard_is watched_is printed its h =
+    let ends = item_at its number (omega (arith, h.counted, slice_get_within watches number w at)) in
+    let s = ends.item in
+    let is = h.each number w s at ends.at in
+    let stood : s.stands ≡ true = sym is.stands ∙ stands in
+    let outcome : ScriptOutcome = record { printed = (unwatched_text (length s.heard) ++ 10 ∷ []) ++ watch_lines old.world.profile old.world.decls number s; world = old.world; watches = slice_set its number (ended s) } in
+    let found : outcome ≡ unwatch_found old.world its number s =
+    ap (λ b. if b then outcome else record { printed = refusal_text refusal.Unknown ++ 10 ∷ []; world = old.world; watches = its }) (sym stood) in
+    let line : outcome ≡ line_outcome old.limit old.world its (UnwatchLine number) = found ∙ ap (unwatch_outcome old.world its number) (sym ends.at) in
+    let told = heard_is its s h ends.at in
+    subst (IsAt old.limit new left before after) line (record {
+      limit_is = limit;
+      world_is = world;
+      watched = watched_is its s h ends.at;
+      printed = printed ∙ (λ i. before ++ ((unwatched_text (length (told i)) ++ 10 ∷ []) ++ heard_text (sym profile i) (sym same i) number (is.kind i) (is.pool i) (told i)));
+    })

@@ -1,4 +1,4 @@
 pub mod Output
 pub mod Endings
-pub mod LiveWorlds
 pub mod Playing
+pub mod Watched

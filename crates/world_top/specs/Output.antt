@@ -7,7 +7,8 @@ use Rattle.world_text.specs.declared.fault.TextRefused.{TextRefused}
 use Rattle.world_text.specs.declared.fault.TextRefused.TheVariants as refused
 use Rattle.world_text.specs.declared.script.ScriptLine.{ScriptLine}
 use Rattle.world_text.specs.Documents.{IsDocument, IsBadLine, text}
-use Rattle.world_text.specs.Scripts.{IsScripted, IsBadScriptedLine, scripted_text}
+use Rattle.world_text.specs.Scripts.{IsScripted, IsBadScriptedLine}
+use Rattle.world_text.specs.Playing.{scripted_text}
 use Rattle.world_top.specs.declared.verb.Verb.{Verb}
 use Rattle.world_top.specs.declared.verb.Verb.TheVariants.{Snapshot, Apply}
 

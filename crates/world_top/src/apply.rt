@@ -2,18 +2,17 @@ ghost use Rattle.std.specs.Prelude.{◌≡◌, ◌+◌, ◌-◌, ◌<◌, ◌++�
 ghost use Rattle.entity_id.specs.Identifiers.{p20_12};
 ghost use Rattle.world_text.specs.declared.script.ScriptLine.{ScriptLine};
 ghost use Rattle.world_text.specs.Documents.{IsLawfulDocument, text};
-ghost use Rattle.world_text.specs.Refusals.{IsScriptCause};
-ghost use Rattle.world_text.specs.Scripts.{IsScript, scripted_text};
-ghost use Rattle.world_top.specs.LiveWorlds.{world_of};
+ghost use Rattle.world_text.specs.Playing.{scripted_text};
+ghost use Rattle.world_text.specs.Refusals.{IsFarAtMost, IsScriptCause};
+ghost use Rattle.world_text.specs.Scripts.{IsScript};
 ghost use Rattle.world_top.specs.Output.{IsOutput, IsInputCause};
-ghost use Rattle.world_top.specs.Playing.{IsFarAtMost, behind_lines, line_limit};
+ghost use Rattle.world_top.specs.Playing.{behind_lines, line_limit};
 
 use super::Verb;
-use super::live_world::LiveWorld;
-use super::loading::load;
 use super::playing::play;
-use super::saving::save;
 use entity_id::OutOfMemory;
+use registry::Registry;
+use signal_sink::Recorder;
 use sparse_set::Steps;
 use std::alloc::Global;
 use std::marker::Brand;
@@ -72,25 +71,40 @@ fn scripted<G: Ledger>(
     ensures cause { IfErr result (IsScriptCause p20_12 document.world.decls script.now) }
     ensures few { IfErr result (IsFarAtMost (length script.now + 3)) }
 {
-    let Ok(mut live) = load(alloc, VERSION_1.slot_limit, document.world, steps) else {
+    let world = document.world;
+    let Ok(mut registry) = Registry::load(alloc, &world, VERSION_1.slot_limit) else {
         return Err(TextRefused::OutOfMemory);
     };
     let mut out = Vec::new(alloc);
-    if let Err(refused) = play(&mut live, script, &mut out, steps) {
+    let played = play(
+        alloc,
+        &mut registry,
+        world.decls.as_slice(),
+        script,
+        &mut out,
+        steps,
+    );
+    if let Err(refused) = played {
         return Err(refused);
     }
-    match finish(alloc, live, out) {
+    match finish(&registry, world.tick, out) {
         Ok(out) => Ok(out),
         Err(_) => Err(TextRefused::OutOfMemory),
     }
 }
 
-// Appends the canonical text of the document that a live world stands for.
-fn finish(alloc: Global, live: LiveWorld, mut out: Vec<u8>) -> Result<Vec<u8>, OutOfMemory>
-    requires { IsLawfulDocument (record { world = world_of live }) }
-    ensures { IfOk result (λ whole. whole.items ≡ out.items ++ text (record { world = world_of live })) }
+// Appends the canonical text of the document that a registry stands for, at a tick.
+fn finish(
+    registry: &Registry<Recorder>,
+    tick: u64,
+    mut out: Vec<u8>,
+) -> Result<Vec<u8>, OutOfMemory>
+    requires { IsLawfulDocument
+        (record { world = record registry.now.world { tick = tick } }) }
+    ensures { IfOk result (λ whole. whole.items ≡ out.items ++
+        text (record { world = record registry.now.world { tick = tick } })) }
 {
-    let world = save(alloc, VERSION_1.profile, live)?;
+    let world = registry.save(tick)?;
     push_world(&mut out, &Document { world })?;
     Ok(out)
 }

@@ -5,20 +5,18 @@
 #![tactic(auto)]
 
 mod apply;
-mod commands;
-mod live_world;
-mod loading;
 mod outcome;
 mod perform;
 mod playing;
 mod program;
-mod report;
-mod saving;
+mod reporting;
 mod snapshot;
 mod verb;
+mod watching;
 
 pub use outcome::{Outcome, Status};
 pub use program::{plain, top};
+pub use reporting::report;
 pub use verb::Verb;
 
 #[cfg(test)]

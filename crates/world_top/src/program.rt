@@ -2,7 +2,7 @@ ghost use Rattle.std.specs.Prelude.{◌≡◌};
 ghost use Rattle.world_top.specs.Endings.{Ends};
 
 use super::perform::perform;
-use super::report::report;
+use super::reporting::report;
 use super::verb::verb_of;
 use super::{Outcome, Status};
 use ecs_io::{Sink, Source};

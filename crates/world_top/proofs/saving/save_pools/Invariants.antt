@@ -1,6 +1,0 @@
-use Rattle.std.proofs.Common.{◌≡◌, take}
-use Rattle.world_top.specs.LiveWorlds.{maps_of}
-use Rattle.world_top.proofs.saving.save_pools.Given as goal
-
-abbrev pub invariant-loop-storage : goal.invariant-loop-storage
-invariant-loop-storage l = l.saved.items ≡ maps_of (take l.storage-index l.pools)
