@@ -1,0 +1,5 @@
+pub mod SceneLemmas
+pub mod RowLemmas
+pub mod MovingLemmas
+pub mod RenewalLemmas
+pub mod RecorderLemmas
