@@ -38,7 +38,8 @@ pub fn after_last_line(text: &[u8]) -> Option<&[u8]>
     after(text, b"end\n")
 }
 
-/// The line of a script that stands at the front of a text, and what stands behind its end. `Bad` comes
+/// The line of a script that stands at the front of a text, and what stands behind its end. The
+/// components are those of a document: 64 at most, each with a name, no two with the same one. `Bad` comes
 /// exactly where the text begins with none, and `OutOfMemory` where memory for a list of components runs
 /// out.
 pub fn take_script_line<'a>(

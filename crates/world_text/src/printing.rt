@@ -29,7 +29,7 @@ pub fn write_world(alloc: Global, document: &Document) -> Result<Vec<u8>, OutOfM
 }
 
 /// Appends the canonical text of a lawful document, as [`write_world`] makes it. After a refusal, which
-/// comes where memory for the text runs out, some front of it may have been appended.
+/// comes where memory for the text runs out, `out` is of no use: no clause says what it holds then.
 pub fn push_world(out: &mut Vec<u8>, document: &Document) -> Result<(), OutOfMemory>
     requires { IsLawfulDocument document.now }
     ensures { OnOk result (out.new.items ≡ out.old.items ++ text document.now) }

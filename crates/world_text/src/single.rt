@@ -11,7 +11,8 @@ use super::{LineFault, ScriptLine};
 use std::alloc::Global;
 use world_model::{Command, Decl};
 
-/// The command that a line, given without its end, spells. `Bad` comes exactly where the line is no line
+/// The command that a line, given without its end, spells. The components are those of a document: 64
+/// at most, each with a name, no two with the same one. `Bad` comes exactly where the line is no line
 /// of a script, or one that begins or ends a watch, and `OutOfMemory` where memory for a copy of the line
 /// or for a list of components runs out.
 pub fn read_command(alloc: Global, line: &[u8], decls: &[Decl]) -> Result<Command, LineFault>

@@ -6,8 +6,17 @@ use std::alloc::Global;
 use std::test::Fail;
 use world_model::{Command, Decl, EventKind, Reply, Row};
 
-const TEXT: &[u8] =
-    b"world 1\ncomponent a int\ncomponent b entity int\ntick 0\nlive 0\npool a\npool b\nend\nscript\nwatch update a\nall_of 0:0 b a\nunwatch 0\nend\n";
+const DOCUMENT: &[u8] =
+    b"world 1\ncomponent a int\ncomponent b entity int\ntick 0\nlive 0\npool a\npool b\nend\n";
+
+const SCRIPT: &[u8] = b"script\nwatch update a\nall_of 0:0 b a\nunwatch 0\nend\n";
+
+// The document and the script behind it.
+fn scripted(alloc: Global) -> Result<Vec<u8>, Fail> {
+    let mut text = Vec::from_slice(alloc, DOCUMENT)?;
+    text.extend_from_slice(SCRIPT)?;
+    Ok(text)
+}
 
 // How many of these lines are read.
 fn how_many_are_read(alloc: Global, lines: &[&[u8]], decls: &[Decl]) -> usize
@@ -67,8 +76,7 @@ fn lines_of_a_script_have_their_form(rt: HostRuntime) -> Result<(), Fail> {
         b"watch update a",
         b"unwatch 0",
     ];
-    let text = &TEXT[..TEXT.len() - 51];
-    let read = read_world(rt.alloc(), text);
+    let read = read_world(rt.alloc(), DOCUMENT);
     assert!(rt; read.is_ok());
     if let Ok(document) = read {
         let decls = document.world.decls.as_slice();
@@ -79,8 +87,41 @@ fn lines_of_a_script_have_their_form(rt: HostRuntime) -> Result<(), Fail> {
 }
 
 #[test]
+fn the_front_of_a_text_is_its_document(rt: HostRuntime) -> Result<(), Fail> {
+    match read_front(rt.alloc(), &scripted(rt.alloc())?) {
+        Ok(front) => {
+            assert_eq!(rt; front.taken, 79);
+            assert_eq!(rt; front.lines, 8);
+            let mut out = Vec::new(rt.alloc());
+            push_world(&mut out, &front.document)?;
+            assert_eq!(rt; out.as_slice(), DOCUMENT);
+            let whole = write_world(rt.alloc(), &front.document)?;
+            assert_eq!(rt; whole.as_slice(), DOCUMENT);
+        }
+        Err(refused) => panic!(rt; "{refused:?}"),
+    }
+    Ok(())
+}
+
+#[test]
+fn a_script_is_taken_line_by_line(rt: HostRuntime) {
+    let behind = after_first_line(SCRIPT);
+    assert_eq!(rt;
+        behind,
+        Some(b"watch update a\nall_of 0:0 b a\nunwatch 0\nend\n".as_slice())
+    );
+    match take_script_line(rt.alloc(), &[], b"unwatch 7\nend\n") {
+        Ok((ScriptLine::Unwatch { number }, rest)) => {
+            assert_eq!(rt; number, 7);
+            assert_eq!(rt; after_last_line(rest), Some(b"".as_slice()));
+        }
+        _ => panic!(rt; "another line"),
+    }
+}
+
+#[test]
 fn a_script_keeps_names_in_ascending_number(rt: HostRuntime) -> Result<(), Fail> {
-    let read = read_script(rt.alloc(), TEXT);
+    let read = read_script(rt.alloc(), &scripted(rt.alloc())?);
     assert!(rt; read.is_ok());
     if let Ok((document, script)) = read {
         assert_eq!(rt; document.world.slots.as_slice().len(), 1);
@@ -95,7 +136,7 @@ fn a_script_keeps_names_in_ascending_number(rt: HostRuntime) -> Result<(), Fail>
                 assert_eq!(rt; pools.as_slice(), [0, 1].as_slice());
                 assert_eq!(rt; *number, 0);
             }
-            _ => assert!(rt; script.as_slice().is_empty()),
+            _ => panic!(rt; "another script"),
         }
     }
     Ok(())
@@ -135,7 +176,7 @@ fn replies_and_events_are_lines(rt: HostRuntime) -> Result<(), Fail> {
         entity: first,
         pool: 1,
     };
-    let read = read_world(rt.alloc(), &TEXT[..TEXT.len() - 51]);
+    let read = read_world(rt.alloc(), DOCUMENT);
     assert!(rt; read.is_ok());
     if let Ok(document) = read {
         let decls = document.world.decls.as_slice();

@@ -95,8 +95,8 @@ pub enum Verb {
     Unwatch,
 }
 
-/// What a word says. None exactly where no line of a script begins with it. The most frequent words
-/// come first.
+/// What a word says. None exactly where no line of a script begins with it. Words of lines with a row
+/// come first, then those with an identifier. No memory.
 pub fn verb_of(word: &[u8]) -> Option<Verb>
     ensures some { IfSome result (λ verb. word.now ≡ word_of verb) }
     ensures none { IfNone result ((verb : Verb) → word.now ≢ word_of verb) }

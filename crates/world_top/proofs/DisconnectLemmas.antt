@@ -1,9 +1,9 @@
 -- A watch that ends: one recorder fewer.
 use Rattle.std.proofs.Common.{◌≡◌, ◌≢◌, ◌⊎◌, inl, inr, ℕ, zero, suc, ◌<◌, true, false, List, [], ◌∷◌, map, length, Option, Some, None, slice_get, slice_set, slice_index_or, refl, sym, ap, subst, ◌∙◌, arith, if◌then◌else◌}
-use Rattle.std.specs.Option.{option_map}
+use Rattle.std.specs.Option.{option_map, option_map_or}
 use Rattle.std.proofs.lemmas.Bool.{cases_eq}
-use Rattle.std.proofs.lemmas.Option.{slice_get_within, slice_get-map, same_Some}
-use Rattle.signal_sink.specs.Hearings.{Hearing, heard_lists}
+use Rattle.std.proofs.lemmas.Option.{slice_get_within, slice_get-map, same_Some, none-some}
+use Rattle.signal_sink.specs.Hearings.{is_connected, Hearing, heard_lists}
 use Rattle.registry.specs.Held.{Held}
 use Rattle.registry.specs.Listeners.{listeners_at, IsRewired}
 use Rattle.world_model.specs.declared.event.Event.{Event}
@@ -117,6 +117,20 @@ what_it_heard held w s events spare is stands at =
     let stood : s.stands ≡ true = sym is.stands ∙ stands in
     let its : Some (Some is.events) ≡ Some (Some events) = sym (is.place ∙ ap (λ b. Some (if b then Some is.events else None)) stood) ∙ there in
     ap (map (λ (e : Event). e.entity)) (sym (same_Some is.events events (same_Some (Some is.events) (Some events) its))) ∙ is.heard
+
+hearing_there : (o : Option (Option Hearing)) (events : List Event) → option_map (option_map (λ (x : Hearing). x.heard)) o ≡ Some (Some events) → option_map_or (λ place. option_map_or (λ hearing. true) place false) o false ≡ true
+hearing_there None events at = absurd (none-some (Some events) at)
+hearing_there (Some None) events at = absurd (none-some events (same_Some None (Some events) at))
+hearing_there (Some (Some hearing)) events at = refl
+
+-- the recorder of a watch that stands is connected
+pub is_heard_by : (held : Held) (w : Watch) (s : Watching) → IsWatch held w s → w.stands ≡ true → is_connected (listeners_at held w.kind w.pool) w.number ≡ true
+is_heard_by held w s is stands =
+    let stood : s.stands ≡ true = sym is.stands ∙ stands in
+    let there : heard_at held w.kind w.pool w.number ≡ Some (Some is.events) =
+    (λ i. heard_at held (is.kind i) (is.pool i) w.number) ∙ is.place ∙ ap (λ b. Some (if b then Some is.events else None)) stood in
+    hearing_there (slice_get (listeners_at held w.kind w.pool) w.number) is.events
+    (sym (slice_get-map (option_map (λ (x : Hearing). x.heard)) (listeners_at held w.kind w.pool) w.number) ∙ there)
 
 pub record IsItem {X : Type 0} (xs : List X) (k : ℕ) : Type 0 where
   pub item : X

@@ -1,3 +1,4 @@
+pub mod CallLemmas
 pub mod ConnectLemmas
 pub mod DisconnectLemmas
 pub mod FrontLemmas

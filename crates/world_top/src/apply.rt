@@ -17,6 +17,7 @@ use sparse_set::Steps;
 use std::alloc::Global;
 use std::marker::Brand;
 use std::sync::ledger::{Blank, Ledger};
+use world_model::World;
 use world_text::{Document, TextRefused, VERSION_1, push_world, read_front};
 
 /// What `apply` prints for an input, which is a document and a script behind it: the replies of the
@@ -72,25 +73,20 @@ fn scripted<G: Ledger>(
     ensures few { IfErr result (IsFarAtMost (length script.now + 3)) }
 {
     let world = document.world;
-    let Ok(mut registry) = Registry::load(alloc, &world, VERSION_1.slot_limit) else {
-        return Err(TextRefused::OutOfMemory);
-    };
+    let mut registry = Registry::load(alloc, &world, VERSION_1.slot_limit)?;
+    // The registry has the rest of the document now.
+    let World { decls, tick, .. } = world;
     let mut out = Vec::new(alloc);
-    let played = play(
+    play(
         alloc,
         &mut registry,
-        world.decls.as_slice(),
+        decls.as_slice(),
         script,
         &mut out,
         steps,
-    );
-    if let Err(refused) = played {
-        return Err(refused);
-    }
-    match finish(&registry, world.tick, out) {
-        Ok(out) => Ok(out),
-        Err(_) => Err(TextRefused::OutOfMemory),
-    }
+    )?;
+    let whole = finish(&registry, tick, out)?;
+    Ok(whole)
 }
 
 // Appends the canonical text of the document that a registry stands for, at a tick.

@@ -6,6 +6,7 @@ ghost use Rattle.world_model.specs.declared.command.Reply.TheVariants.{Refused};
 ghost use Rattle.world_text.specs.declared.script.ScriptLine.{ScriptLine};
 ghost use Rattle.world_text.specs.declared.script.ScriptLine.TheVariants.{Run};
 ghost use Rattle.world_text.specs.Documents.{AreNamedDecls};
+ghost use Rattle.world_text.specs.Playing.{Watching};
 ghost use Rattle.world_text.specs.Refusals.{IsFarAtMost, IsScriptCause};
 ghost use Rattle.world_text.specs.Scripts.{IsScript, IsScriptLine, IsCommandLine, IsLineFirst};
 ghost use Rattle.world_top.specs.Playing.{IsPlayed, IsPlayedTo, Plays};
@@ -114,6 +115,7 @@ fn play_line<G: Ledger>(
 ) -> Result<(), OutOfMemory>
     requires decls { registry.old.world.decls ≡ decls.now }
     requires profile { registry.old.world.profile ≡ p20_12 }
+    requires watched { (its : List Watching) × AreWatched registry.old watches.old.items its }
     requires line { IsScriptLine p20_12 decls.now line }
     ensures { OnOk result (Plays registry.old registry.new watches.old.items watches.new.items
         out.old.items out.new.items line) }

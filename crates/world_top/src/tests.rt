@@ -6,6 +6,7 @@ use entity_id::Counts;
 use std::test::Fail;
 
 mod apply;
+mod calls;
 
 const EMPTY: &[u8] = b"world 1\ntick 0\nend\n";
 

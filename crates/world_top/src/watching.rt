@@ -60,7 +60,9 @@ pub fn begin(
         }
         Err(refused) => match refused.cause {
             Refusal::TooMany => push_refusal(Refusal::TooMany, decls, out),
-            _ => Err(OutOfMemory),
+            Refusal::OutOfMemory => Err(OutOfMemory),
+            // The component is declared.
+            _ => unreachable!(),
         },
     }
 }
@@ -74,6 +76,7 @@ pub fn end(
     decls: &[Decl],
     out: &mut Vec<u8>,
 ) -> Result<(), OutOfMemory>
+    requires watched { (its : List Watching) × AreWatched registry.old watches.old.items its }
     requires profile { registry.old.world.profile ≡ version_1.profile }
     requires decls { registry.old.world.decls ≡ decls.now }
     ensures { OnOk result (Plays registry.old registry.new watches.old.items watches.new.items
@@ -94,6 +97,7 @@ pub fn tell_standing(
     decls: &[Decl],
     out: &mut Vec<u8>,
 ) -> Result<(), OutOfMemory>
+    requires watched { (its : List Watching) × AreWatched registry.old watches.old.items its }
     requires profile { registry.old.world.profile ≡ version_1.profile }
     requires decls { registry.old.world.decls ≡ decls.now }
     ensures told { OnOk result ((its : List Watching) →
@@ -119,6 +123,7 @@ fn tell_one(
     out: &mut Vec<u8>,
 ) -> Result<(), OutOfMemory>
     requires within { at < length watches.old.items }
+    requires watched { (its : List Watching) × AreWatched registry.old watches.old.items its }
     requires profile { registry.old.world.profile ≡ version_1.profile }
     requires decls { registry.old.world.decls ≡ decls.now }
     ensures watched { OnOk result ((its : List Watching) →
@@ -162,6 +167,7 @@ fn stop(
     at: usize,
 ) -> Result<Vec<Entity>, OutOfMemory>
     requires within { at < length watches.old.items }
+    requires watched { (its : List Watching) × AreWatched registry.old watches.old.items its }
     requires stands { (watch : Watch) →
         slice_get watches.old.items at ≡ Some watch → watch.stands ≡ true }
     ensures heard { IfOk result (λ heard. (its : List Watching) (ends : Watching) →
@@ -176,7 +182,8 @@ fn stop(
 {
     let watch = watches[at];
     let Ok(recorder) = registry.disconnect(watch.kind, watch.pool, watch.number) else {
-        return Err(OutOfMemory);
+        // The recorder of a watch that stands is connected.
+        unreachable!()
     };
     watches[at].stands = false;
     entities_of(alloc, recorder.heard())

@@ -1,10 +1,20 @@
-use Rattle.std.proofs.Common.{◌≡◌, sym, ap, subst, ◌∙◌, map}
+use Rattle.std.proofs.Common.{◌≡◌, false, true, sym, ap, subst, ◌∙◌, map, arith}
+use Rattle.std.proofs.lemmas.Bool.{false≢true}
 use Rattle.std.proofs.lemmas.Option.{same_Some}
 use Rattle.world_model.specs.declared.event.Event.{Event}
 use Rattle.world_top.specs.declared.watching.Watch.{Watch}
 use Rattle.world_top.proofs.LiveLemmas.{map_if, if_ok}
-use Rattle.world_top.proofs.DisconnectLemmas.{Disconnects, stopped, what_it_heard, read_item}
+use Rattle.world_top.proofs.DisconnectLemmas.{Disconnects, stopped, what_it_heard, read_item, item_at, is_heard_by}
 use Rattle.world_top.proofs.watching.stop.Goals as goal
+
+pub unreachable-requires : goal.unreachable-requires
+unreachable-requires c =
+    let w = c.index-watch.result.now in
+    let at = read_item c.args.watches.now.items c.args.at w c.requires.within c.index-watch.ensures in
+    let its = c.requires.watched.0 in
+    let are = c.requires.watched.1 in
+    let s = item_at its c.args.at (omega (arith, are.counted, c.requires.within)) in
+    false≢true (sym c.in_default.ensures.unknown ∙ is_heard_by c.args.registry.now w s.item (are.each c.args.at w s.item at s.at) (c.requires.stands w at))
 
 pub returns-clause-heard : goal.returns-clause-heard
 returns-clause-heard c =
