@@ -102,7 +102,7 @@ fn push_events(
 ) -> Result<(), OutOfMemory>
     ensures ok { OnOk result (out.new.items ≡ out.old.items ++
         flat_map (heard_line version_1.profile number kind name.now) heard.now) }
-    ensures kept { take (length out.old.items) out.new.items ≡ out.old.items }
+    ensures front { take (length out.old.items) out.new.items ≡ out.old.items }
 {
     for entity in heard {
         push_event(number, kind, name, *entity, out)?;
@@ -120,7 +120,7 @@ fn push_event(
 ) -> Result<(), OutOfMemory>
     ensures ok { OnOk result (out.new.items ≡
         out.old.items ++ heard_line version_1.profile number kind name.now entity) }
-    ensures kept { take (length out.old.items) out.new.items ≡ out.old.items }
+    ensures front { take (length out.old.items) out.new.items ≡ out.old.items }
 {
     push_words(out, b"heard ")?;
     push_digits(out, u64::from(number))?;

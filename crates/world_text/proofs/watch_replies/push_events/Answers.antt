@@ -9,5 +9,5 @@ front_kept old x held new is kept =
     ap (take (length old)) (sym (take-append-drop (length held) new) ∙ ap (λ t. t ++ drop (length held) new) (kept ∙ is) ∙ append_assoc old x (drop (length held) new))
     ∙ take-append_seam old (x ++ drop (length held) new)
 
-pub returns-in_err-push_event-clause-kept : goal.returns-in_err-push_event-clause-kept
-returns-in_err-push_event-clause-kept c = front_kept c.args.out.now.items _ c.loop-entity.out.items c.push_event.new.out.items c.loop-entity.invariant c.in_err-push_event.ensures.kept
+pub returns-in_err-push_event-clause-front : goal.returns-in_err-push_event-clause-front
+returns-in_err-push_event-clause-front c = front_kept c.args.out.now.items _ c.loop-entity.out.items c.push_event.new.out.items c.loop-entity.invariant c.in_err-push_event.ensures.front
