@@ -1,12 +1,12 @@
 -- What is seen of listeners after one of them, or each, was told or made room in.
-use Rattle.std.proofs.Common.{◌≡◌, ◌≢◌, ℕ, zero, suc, ◌+◌, ◌-◌, ◌<◌, ◌≤◌, List, [], ◌∷◌, ◌++◌, set, get_or, length, Option, Some, None, slice_get, sym, refl, ap, ◌∙◌, subst, inl, inr, arith}
+use Rattle.std.proofs.Common.{◌≡◌, ◌≢◌, ℕ, zero, suc, ◌+◌, ◌-◌, ◌<◌, ◌≤◌, List, [], ◌∷◌, ◌++◌, set, get_or, length, Option, Some, None, slice_get, sym, refl, ap, ◌∙◌, subst, inl, inr, arith, IsSomeAnd}
 use Rattle.std.specs.Option.{option_map}
 use Rattle.std.proofs.lemmas.Bool.{cases_eq}
 use Rattle.std.proofs.lemmas.List.{map-set, length-map}
 use Rattle.std.proofs.lemmas.Option.{none-some, same_Some, slice_get-map, slice_get_read}
 use Rattle.world_model.specs.declared.event.Event.{Event}
 use Rattle.world_model.proofs.ListLemmas.{slice_get-set_same, slice_get-set_other}
-use Rattle.signal_sink.specs.Hearings.{Hearing, hearing_by, hearings_by, told, all_told, heard_lists, heard_also, HasSpare, HaveSpare}
+use Rattle.signal_sink.specs.Hearings.{Hearing, hearing_by, hearings_by, told, all_told, heard_lists, heard_also, HasSpare, HaveSpare, KeepsSpare, KeepSpare}
 
 -- lists that have the same at each place are the same
 pub same_by_get : {X : Type 0} (xs ys : List X) → ((n : ℕ) → slice_get xs n ≡ slice_get ys n) → xs ≡ ys
@@ -29,6 +29,17 @@ told_spare e (o ∷ hearings) m h (suc number) hearing g = told_spare e hearings
 pub spare_of : (o : Option Hearing) (m : ℕ) → ((e : Hearing) → o ≡ Some e → m ≤ e.spare) → HasSpare m o
 spare_of None m w = tt
 spare_of (Some e) m w = w e refl
+
+-- the room that no change leaves
+pub same_spare : (hearings : List (Option Hearing)) → KeepSpare hearings hearings
+same_spare hearings number hearing g = subst (λ (o : Option (Option Hearing)). IsSomeAnd o (KeepsSpare (Some hearing))) (sym g) (omega arith)
+
+-- over two changes
+keeps_on : (first second third : Option Hearing) → KeepsSpare first second → KeepsSpare second third → KeepsSpare first third
+keeps_on None second third one two = tt
+keeps_on (Some a) (Some b) (Some c) one two = omega (arith, one, two)
+keeps_on (Some a) (Some b) None one two = absurd two
+keeps_on (Some a) None third one two = absurd one
 
 -- ---- one listener of a list is replaced: `y` stands where `x` was
 
@@ -69,6 +80,17 @@ module _ {L : Type 0} (h : L → List Event) (s : L → ℕ) (items : List (Opti
     | inl at ↦
         let new : hearing_by h s y ≡ Some hearing = same_Some (hearing_by h s y) (Some hearing) (sym new_here ∙ ap (slice_get (hearings_by h s (set items i y))) (sym at) ∙ g) in
         subst (HasSpare m) new (kept m (spare_of (hearing_by h s x) m (λ e q. before i e (hearing_here ∙ ap (λ (v : Option Hearing). Some v) q))))
+  ]
+
+  -- where the room of the second is no less than that of the first, none has less
+  pub same_room : (before : List (Option Hearing)) → KeepsSpare (hearing_by h s x) (hearing_by h s y) → KeepSpare before (hearings_by h s items) → KeepSpare before (hearings_by h s (set items i y))
+  same_room before more so_far k hearing g = elim (cases_eq k i) [
+    | inr apart ↦ subst (λ (o : Option (Option Hearing)). IsSomeAnd o (KeepsSpare (Some hearing))) (sym (new_there k apart)) (so_far k hearing g)
+    | inl at ↦
+        let here : slice_get (hearings_by h s items) k ≡ Some (hearing_by h s x) = ap (slice_get (hearings_by h s items)) at ∙ hearing_here in
+        let there : slice_get (hearings_by h s (set items i y)) k ≡ Some (hearing_by h s y) = ap (slice_get (hearings_by h s (set items i y))) at ∙ new_here in
+        let old : KeepsSpare (Some hearing) (hearing_by h s x) = subst (λ (o : Option (Option Hearing)). IsSomeAnd o (KeepsSpare (Some hearing))) here (so_far k hearing g) in
+        subst (λ (o : Option (Option Hearing)). IsSomeAnd o (KeepsSpare (Some hearing))) (sym there) (keeps_on (Some hearing) (hearing_by h s x) (hearing_by h s y) old more)
   ]
 
 -- each that is told of an event heard that event more

@@ -1,5 +1,5 @@
 -- What a contract sees of the listeners of a signal.
-use Rattle.std.specs.Prelude.{◌≡◌, Bool, true, false, Some, slice_get, ℕ, ◌-◌, ◌≤◌, List, [], ◌∷◌, ◌++◌, map, Option, IfSome}
+use Rattle.std.specs.Prelude.{◌≡◌, Bool, true, false, Some, slice_get, ℕ, ◌-◌, ◌≤◌, List, [], ◌∷◌, ◌++◌, map, Option, IfSome, IsSomeAnd}
 use Rattle.std.specs.Option.{option_map, option_map_or}
 use Rattle.world_model.specs.declared.event.Event.{Event}
 
@@ -31,6 +31,14 @@ HasSpare n place = IfSome place (λ hearing. n ≤ hearing.spare)
 -- each that is connected has room for so many events
 abbrev pub HaveSpare : ℕ → List (Option Hearing) → Type 0
 HaveSpare n hearings = (number : ℕ) (hearing : Hearing) → slice_get hearings number ≡ Some (Some hearing) → n ≤ hearing.spare
+
+-- where a listener was connected, one is, and has no less room
+abbrev pub KeepsSpare : Option Hearing → Option Hearing → Type 0
+KeepsSpare old new = IfSome old (λ before. IsSomeAnd new (λ after. before.spare ≤ after.spare))
+
+-- the same of each number
+abbrev pub KeepSpare : List (Option Hearing) → List (Option Hearing) → Type 0
+KeepSpare old new = (number : ℕ) (hearing : Hearing) → slice_get old number ≡ Some (Some hearing) → IsSomeAnd (slice_get new number) (KeepsSpare (Some hearing))
 
 -- ---- told of an event
 

@@ -1,7 +1,7 @@
 //! The listeners of a signal, by number.
 
 ghost use Rattle.std.specs.Prelude.{◌≡◌, ◌≢◌, ◌↔◌, ℕ, ◌+◌, ◌<◌, [], ◌∷◌, ◌++◌, length, slice_get, slice_set, is_ok, OnOk, OnErr, IfOk, IfErr};
-ghost use Rattle.signal_sink.specs.Hearings.{listener_limit, all_told, heard_lists, heard_also, is_connected, HaveSpare};
+ghost use Rattle.signal_sink.specs.Hearings.{listener_limit, all_told, heard_lists, heard_also, is_connected, HaveSpare, KeepSpare};
 
 use super::telling::{reserve_all, tell_all};
 use super::{ConnectRefused, Listener, Unknown};
@@ -94,11 +94,12 @@ impl<L: Listener> Signal<L> {
     }
 
     /// Makes room for `n` events with each connected listener. `OutOfMemory` where there is no
-    /// memory for them; no spare falls, and what they heard stays, after a refusal too. (This
-    /// project's own.)
+    /// memory for them; no listener's spare falls, and what each heard stays, after a refusal too.
+    /// (This project's own.)
     pub fn reserve(&mut self, n: u64) -> Result<(), OutOfMemory>
         ensures ok { OnOk result (HaveSpare n self.new) }
         ensures heard { heard_lists self.new ≡ heard_lists self.old }
+        ensures spare { KeepSpare self.old self.new }
         ensures room { (m : ℕ) → HaveSpare m self.old → HaveSpare m self.new }
     {
         reserve_all(&mut self.listeners, n)

@@ -2,7 +2,7 @@
 
 ghost use Rattle.std.specs.Prelude.{◌≡◌, ℕ, ◌≤◌, length, OnOk};
 ghost use Rattle.std.specs.Option.{option_map};
-ghost use Rattle.signal_sink.specs.Hearings.{hearing_by, hearings_by, HasSpare, told, all_told, heard_lists, HaveSpare};
+ghost use Rattle.signal_sink.specs.Hearings.{hearing_by, hearings_by, HasSpare, told, all_told, heard_lists, HaveSpare, KeepsSpare, KeepSpare};
 
 use super::Listener;
 use entity_id::OutOfMemory;
@@ -16,6 +16,8 @@ pub(super) fn reserve_all<L: Listener>(
     ensures ok { OnOk result (HaveSpare n (hearings_by L.heard L.spare listeners.new.items)) }
     ensures heard { heard_lists (hearings_by L.heard L.spare listeners.new.items) ≡
         heard_lists (hearings_by L.heard L.spare listeners.old.items) }
+    ensures spare { KeepSpare (hearings_by L.heard L.spare listeners.old.items)
+        (hearings_by L.heard L.spare listeners.new.items) }
     ensures room { (m : ℕ) → HaveSpare m (hearings_by L.heard L.spare listeners.old.items)
         → HaveSpare m (hearings_by L.heard L.spare listeners.new.items) }
     ensures len { length listeners.new.items ≡ length listeners.old.items }
@@ -31,6 +33,8 @@ fn reserve_one<L: Listener>(place: &mut Option<L>, n: u64) -> Result<(), OutOfMe
     ensures ok { OnOk result (HasSpare n (hearing_by L.heard L.spare place.new)) }
     ensures heard { option_map (λ hearing. hearing.heard) (hearing_by L.heard L.spare place.new) ≡
         option_map (λ hearing. hearing.heard) (hearing_by L.heard L.spare place.old) }
+    ensures spare { KeepsSpare (hearing_by L.heard L.spare place.old)
+        (hearing_by L.heard L.spare place.new) }
     ensures room { (m : ℕ) → HasSpare m (hearing_by L.heard L.spare place.old)
         → HasSpare m (hearing_by L.heard L.spare place.new) }
 {

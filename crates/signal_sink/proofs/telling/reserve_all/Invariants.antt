@@ -1,5 +1,5 @@
 use Rattle.std.proofs.Common.{◌≡◌, ℕ, ◌<◌, ◌≤◌, slice_get, length, Some}
-use Rattle.signal_sink.specs.Hearings.{hearings_by, heard_lists, HaveSpare, Hearing}
+use Rattle.signal_sink.specs.Hearings.{hearings_by, heard_lists, HaveSpare, KeepSpare, Hearing}
 use Rattle.signal_sink.proofs.telling.reserve_all.Given as goal
 
 abbrev pub invariant-loop-i : goal.invariant-loop-i
@@ -9,6 +9,7 @@ invariant-loop-i g l =
     record {
       heard : heard_lists now ≡ heard_lists before;
       ok : (k : ℕ) (hearing : Hearing) → k < l.i → slice_get now k ≡ Some (Some hearing) → l.n ≤ hearing.spare;
+      spare : KeepSpare before now;
       room : (m : ℕ) → HaveSpare m before → HaveSpare m now;
       len : length l.listeners.items ≡ length l.fn.listeners.items;
     }
