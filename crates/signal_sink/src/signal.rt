@@ -1,6 +1,6 @@
 //! The listeners of a signal, by number.
 
-ghost use Rattle.std.specs.Prelude.{◌≡◌, ◌≢◌, ◌↔◌, ℕ, ◌+◌, ◌<◌, [], ◌∷◌, ◌++◌, length, slice_get, slice_set, is_ok, OnOk, OnErr, IfOk, IfErr};
+ghost use Rattle.std.specs.Prelude.{◌≡◌, ◌≢◌, ◌↔◌, ℕ, ◌+◌, ◌<◌, [], ◌∷◌, ◌++◌, length, slice_get, slice_set, is_ok, IsTrue, OnOk, OnErr, IfOk, IfErr};
 ghost use Rattle.signal_sink.specs.Hearings.{listener_limit, all_told, heard_lists, heard_also, is_connected, HaveSpare, KeepSpare};
 
 use super::telling::{reserve_all, tell_all};
@@ -42,6 +42,14 @@ impl<L: Listener> Signal<L> {
         }
     }
 
+    /// Whether 8 were connected, those that were disconnected since included, so that no more can be.
+    /// No memory. (This project's own.)
+    pub fn is_full(&self) -> bool
+        ensures { IsTrue result ↔ (length self.now ≡ listener_limit) }
+    {
+        self.listeners.len() >= LISTENER_LIMIT
+    }
+
     /// Connects a listener, and answers its number: how many were connected before, so that no
     /// number is given again. `TooMany` exactly where 8 were connected before, those that were
     /// disconnected since included; `OutOfMemory` where there is no memory for one more. After a
@@ -59,13 +67,13 @@ impl<L: Listener> Signal<L> {
         ensures other_cause { IfErr result (λ refused.
             refused.cause ≢ Refusal.TooMany → refused.cause ≡ Refusal.OutOfMemory) }
     {
-        let number = self.listeners.len();
-        if number >= LISTENER_LIMIT {
+        if self.is_full() {
             return Err(ConnectRefused {
                 cause: Refusal::TooMany,
                 listener,
             });
         }
+        let number = self.listeners.len();
         if self.listeners.reserve(1).is_err() {
             return Err(ConnectRefused {
                 cause: Refusal::OutOfMemory,

@@ -65,12 +65,14 @@ fn publish(rt: &impl Abort, signal: &mut Signal<Recorder>, e: Event) {
 fn the_ninth_listener_is_refused_though_one_was_disconnected(rt: HostRuntime) {
     let mut signal = Signal::new(rt.alloc());
     for number in 0..8 {
+        assert_eq!(rt; signal.is_full(), false);
         assert_eq!(rt;
             connect(&rt, &mut signal, Recorder::new(rt.alloc())),
             number
         );
     }
     let listener = signal.disconnect(3).expect(&rt, "a listener");
+    assert_eq!(rt; signal.is_full(), true);
     match signal.connect(listener) {
         Ok(number) => panic!(rt; "connected under {number}"),
         Err(refused) => assert_eq!(rt; refused.cause, Refusal::TooMany),

@@ -31,8 +31,8 @@ pub fn connect<L: Listener>(
     ensures given_back { IfErr result (λ refused. L.heard refused.listener ≡ L.heard listener) }
     ensures no_pool { IfErr result (λ refused. (refused.cause ≡ Refusal.NoPool)
         ↔ (length parts.old.decls ≤ pool)) }
-    ensures too_many { IfErr result (λ refused. refused.cause ≡ Refusal.TooMany →
-        length (listeners_at (held_of parts.old) kind pool) ≡ listener_limit) }
+    ensures too_many { IfErr result (λ refused. (refused.cause ≡ Refusal.TooMany)
+        ↔ (length (listeners_at (held_of parts.old) kind pool) ≡ listener_limit)) }
     ensures cause { IfErr result (λ refused.
         refused.cause ≢ Refusal.NoPool → refused.cause ≢ Refusal.TooMany →
         refused.cause ≡ Refusal.OutOfMemory) }
@@ -54,8 +54,8 @@ pub fn connect<L: Listener>(
     }
 }
 
-// Connects a listener to one of the signals, once it has room for so many events. That there is no
-// more room is found first, so that the listener is left as it is then.
+// Connects a listener to one of the signals, once it has room for so many events. That the signal
+// is full is found first, so that no memory is taken then.
 fn connect_with_room<L: Listener>(
     signals: &mut Vec<Signal<L>>,
     at: usize,
@@ -75,11 +75,17 @@ fn connect_with_room<L: Listener>(
         (length (slice_index_or signals.old.items at []) < listener_limit) }
     ensures err { OnErr result (signals.new.items ≡ signals.old.items) }
     ensures given_back { IfErr result (λ refused. L.heard refused.listener ≡ L.heard listener) }
-    ensures too_many { IfErr result (λ refused. refused.cause ≡ Refusal.TooMany →
-        length (slice_index_or signals.old.items at []) ≡ listener_limit) }
+    ensures too_many { IfErr result (λ refused. (refused.cause ≡ Refusal.TooMany)
+        ↔ (length (slice_index_or signals.old.items at []) ≡ listener_limit)) }
     ensures cause { IfErr result (λ refused.
         refused.cause ≢ Refusal.TooMany → refused.cause ≡ Refusal.OutOfMemory) }
 {
+    if signals[at].is_full() {
+        return Err(ConnectRefused {
+            cause: Refusal::TooMany,
+            listener,
+        });
+    }
     let mut ready = listener;
     if ready.reserve(rows).is_err() {
         return Err(ConnectRefused {

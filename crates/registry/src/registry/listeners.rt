@@ -13,10 +13,11 @@ impl<L: Listener> Registry<L> {
     /// Connects a listener to what happens to the rows of a pool: one kind of event. It answers the
     /// listener's number, which is how many of its kind and pool were connected before, so that no
     /// number is given again. One that hears of rows removed has room for all rows of the pool from
-    /// then on. `NoPool` exactly where the pool is not declared, `TooMany` where 8 were connected
-    /// before, those that were disconnected since included, and `OutOfMemory`; then all is as
-    /// before, and the listener comes back with what it heard. Takes memory. (EnTT:
-    /// `registry.on_construct<T>().connect<F>()`, and `on_update` and `on_destroy` alike.)
+    /// then on. `NoPool` exactly where the pool is not declared, `TooMany` exactly where 8 were
+    /// connected before, those that were disconnected since included, and else `OutOfMemory`; then
+    /// all is as before, and the listener comes back with what it heard. Takes memory, but none where
+    /// it answers `NoPool` or `TooMany`. (EnTT: `registry.on_construct<T>().connect<F>()`, and
+    /// `on_update` and `on_destroy` alike.)
     pub fn connect(
         &mut self,
         kind: EventKind,
@@ -33,8 +34,8 @@ impl<L: Listener> Registry<L> {
         ensures given_back { IfErr result (λ refused. L.heard refused.listener ≡ L.heard listener) }
         ensures no_pool { IfErr result (λ refused. (refused.cause ≡ Refusal.NoPool)
             ↔ (length self.old.world.decls ≤ pool)) }
-        ensures too_many { IfErr result (λ refused. refused.cause ≡ Refusal.TooMany →
-            length (listeners_at self.old kind pool) ≡ listener_limit) }
+        ensures too_many { IfErr result (λ refused. (refused.cause ≡ Refusal.TooMany)
+            ↔ (length (listeners_at self.old kind pool) ≡ listener_limit)) }
         ensures cause { IfErr result (λ refused.
             refused.cause ≢ Refusal.NoPool → refused.cause ≢ Refusal.TooMany →
             refused.cause ≡ Refusal.OutOfMemory) }
