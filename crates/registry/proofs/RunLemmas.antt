@@ -1,5 +1,5 @@
 -- Answers of calls as replies to commands.
-use Rattle.std.proofs.Common.{◌≡◌, ◌≢◌, ◌⊎◌, inl, inr, None, Some, Result, Ok, Err, OnOk, OnErr, IfOk, IfErr, sym, refl, ap, ◌∙◌}
+use Rattle.std.proofs.Common.{◌≡◌, ◌≢◌, ◌⊎◌, inl, inr, None, Some, Result, Ok, Err, OnOk, OnErr, IfOk, IfErr, IsTrue, sym, refl, ap, ◌∙◌}
 use Rattle.world_model.specs.declared.command.Command.{Command}
 use Rattle.world_model.specs.declared.command.Reply.{Reply}
 use Rattle.world_model.specs.declared.command.Reply.TheVariants.{Refused}
@@ -8,7 +8,7 @@ use Rattle.world_model.specs.declared.refusal.Refusal.TheVariants as refusal
 use Rattle.world_model.specs.Outcomes.{outcome_of}
 use Rattle.world_model.proofs.StepLemmas.{step_cases}
 use Rattle.registry.specs.Held.{Held, Becomes, Does, AsBefore, reply_to, refusal_to}
-use Rattle.registry.specs.Running.{reply_by, IsRun}
+use Rattle.registry.specs.Running.{may_want_memory, reply_by, IsRun}
 use Rattle.registry.proofs.DoneLemmas.{same, refused}
 
 want_or_cause : (e : Refusal) → (e ≡ refusal.OutOfMemory) ⊎ (e ≢ refusal.OutOfMemory)
@@ -36,11 +36,11 @@ refused_step old new command cause h before =
     some_none x h = cc
 
 -- of a call that may want memory
-pub ran : {A : Type 0} (old new : Held) (command : Command) (r : Result A Refusal) (reply : A → Reply) → OnOk r (Does old new command) → IfOk r (λ x. reply_to old command ≡ reply x) → OnErr r (AsBefore old new)
+pub ran : {A : Type 0} (old new : Held) (command : Command) (r : Result A Refusal) (reply : A → Reply) → IsTrue (may_want_memory command) → OnOk r (Does old new command) → IfOk r (λ x. reply_to old command ≡ reply x) → OnErr r (AsBefore old new)
     → IfErr r (λ cause. cause ≢ refusal.OutOfMemory → refusal_to old command ≡ Some cause) → IsRun old new command (reply_by reply r)
-ran old new command (Ok x) reply does is before cause = inl (does, sym is)
-ran old new command (Err e) reply does is before cause = elim (want_or_cause e) [
-  | inl want ↦ inr (ap Refused want, before)
+ran old new command (Ok x) reply may does is before cause = inl (does, sym is)
+ran old new command (Err e) reply may does is before cause = elim (want_or_cause e) [
+  | inl want ↦ inr (may, ap Refused want, before)
   | inr other ↦ inl (refused_step old new command e (cause other) before, sym (refused old command e (cause other)).1)
 ]
 

@@ -1,7 +1,7 @@
 -- Commands carried out, with their replies.
-use Rattle.std.specs.Prelude.{◌≡◌, ◌⊎◌, Bool, true, false, Result, Ok, Err}
+use Rattle.std.specs.Prelude.{◌≡◌, ◌⊎◌, Bool, true, false, IsTrue, Result, Ok, Err}
 use Rattle.world_model.specs.declared.command.Command.{Command}
-use Rattle.world_model.specs.declared.command.Command.TheVariants.{Valid, Get, AllOf, AnyOf, Orphan, Alive, Size, View, Group, Members, SortPool, SortGroup}
+use Rattle.world_model.specs.declared.command.Command.TheVariants.{Create, Hint, Emplace, EmplaceOrReplace, Replace, Patch, Valid, Get, AllOf, AnyOf, Orphan, Alive, Size, View, Group, Members, SortPool, SortGroup}
 use Rattle.world_model.specs.declared.command.Reply.{Reply}
 use Rattle.world_model.specs.declared.command.Reply.TheVariants.{Refused}
 use Rattle.world_model.specs.declared.refusal.Refusal.{Refusal}
@@ -28,11 +28,22 @@ is_question Size = true
 is_question (View all without) = true
 is_question _ = false
 
+-- whether the call of a command may want memory
+abbrev pub may_want_memory : Command → Bool
+may_want_memory Create = true
+may_want_memory (Hint entity) = true
+may_want_memory (Emplace entity pool row) = true
+may_want_memory (EmplaceOrReplace entity pool row) = true
+may_want_memory (Replace entity pool row) = true
+may_want_memory (Patch entity pool field value) = true
+may_want_memory (View all without) = true
+may_want_memory _ = false
+
 -- what a call's answer is as a reply
 abbrev pub reply_by : {A : Type 0} → (A → Reply) → Result A Refusal → Reply
 reply_by reply (Ok answer) = reply answer
 reply_by reply (Err refused) = Refused refused
 
--- the command did its step and was answered so, or memory ran out and all is as before, but for spare
+-- the command did its step and was answered so; or memory ran out, where its call may want it, and all is as before but for spare
 abbrev pub IsRun : Held → Held → Command → Reply → Type 0
-IsRun old new command reply = (Does old new command × (reply ≡ reply_to old command)) ⊎ ((reply ≡ Refused OutOfMemory) × AsBefore old new)
+IsRun old new command reply = (Does old new command × (reply ≡ reply_to old command)) ⊎ (IsTrue (may_want_memory command) × (reply ≡ Refused OutOfMemory) × AsBefore old new)

@@ -70,7 +70,7 @@ fn ask<L: Listener>(parts: &Parts<L>, command: &Command) -> Reply
         Command::Size => Reply::Number(u64::from(parts.slots.len())),
         Command::View { all, without } => listed(viewing::view(parts, all, without)),
         // No other command is a question.
-        _ => Reply::Done,
+        _ => unreachable!(),
     }
 }
 

@@ -41,3 +41,27 @@ fn run_in<G: Ledger>(rt: &impl Abort, alloc: Global, blank: Blank) -> Result<(),
     }
     assert_heard(rt, &mut registry, &[SECOND], &[], &[])
 }
+
+#[test]
+fn a_destruction_by_its_command_is_carried_out(rt: HostRuntime) -> Result<(), Fail> {
+    end_in::<Brand>(&rt, rt.alloc(), Blank::new(1))
+}
+
+fn end_in<G: Ledger>(rt: &impl Abort, alloc: Global, blank: Blank) -> Result<(), Fail>
+    requires name { blank.name ≡ G.name }
+    requires parts { blank.parts ≡ G.parts }
+    requires some { 0 < blank.parts }
+{
+    let mut steps = Steps::<G>::new(blank);
+    let mut registry = loaded(alloc)?;
+    let ended = Command::Destroy { entity: FIRST };
+    match registry.run(&ended, &mut steps) {
+        Reply::Done => assert_eq!(rt; registry.valid(FIRST), false),
+        other => panic!(rt; "{other:?}"),
+    }
+    match registry.run(&ended, &mut steps) {
+        Reply::Refused(refused) => assert_eq!(rt; refused, Refusal::Dead),
+        other => panic!(rt; "{other:?}"),
+    }
+    assert_heard(rt, &mut registry, &[], &[], &[FIRST])
+}

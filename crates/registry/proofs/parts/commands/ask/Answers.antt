@@ -1,4 +1,4 @@
-use Rattle.std.proofs.Common.{inl, sym, ap, subst, ◌∙◌}
+use Rattle.std.proofs.Common.{inl, refl, sym, ap, subst, ◌∙◌}
 use Rattle.world_model.specs.declared.command.Command.{Command}
 use Rattle.world_model.specs.declared.command.Command.TheVariants.{Valid, Get, AllOf, AnyOf, Orphan, Alive, Size, View}
 use Rattle.world_model.specs.declared.command.Reply.TheVariants.{Truth, Number, Values, Listed}
@@ -55,4 +55,4 @@ pub returns-in-View : goal.returns-in-View
 returns-in-View g c =
     let held = held_of c.args.parts.now in
     let command : Command = View c.in-View.all c.in-View.without in
-    subst (λ v. IsRun held held v c.listed.result) (sym c.in-View.is) (subst (λ r. IsRun held held command r) (sym c.listed.ensures) (ran held held command c.view.result (λ x. Listed x) (all_ok c.view.result (asked held command (same held))) c.view.ensures.ok (all_err c.view.result (same held)) c.view.ensures.cause))
+    subst (λ v. IsRun held held v c.listed.result) (sym c.in-View.is) (subst (λ r. IsRun held held command r) (sym c.listed.ensures) (ran held held command c.view.result (λ x. Listed x) refl (all_ok c.view.result (asked held command (same held))) c.view.ensures.ok (all_err c.view.result (same held)) c.view.ensures.cause))
