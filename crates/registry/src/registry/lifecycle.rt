@@ -20,8 +20,10 @@ use world_model::{DeclList, Refusal, World};
 
 impl<L: Listener> Registry<L> {
     /// A registry of these components, with no entity and with no listener, which keeps the
-    /// allocator: there will be at most `slot_limit` slots. `OutOfMemory` where there is no memory
-    /// for its pools. (EnTT: the constructor, and `registry.storage<T>()` for each component.)
+    /// allocator: there will be at most `slot_limit` slots. The profile is one of the two, `P20_12`
+    /// and `P32_32`, and the slot limit is at most its index limit. There are at most 64 components,
+    /// each of at most 4 fields, with `Int` for the kinds past them. `OutOfMemory` where there is no
+    /// memory for its pools. (EnTT: the constructor, and `registry.storage<T>()` for each component.)
     pub fn new(
         alloc: Global,
         profile: Profile,
