@@ -1,5 +1,5 @@
 -- Commands that were read, carried out on a registry of their components.
-use Rattle.std.proofs.Common.{◌≡◌, ◌⊎◌, inl, inr, refl, ℕ, List, sym, ap, ◌∙◌, subst}
+use Rattle.std.proofs.Common.{◌≡◌, inl, inr, refl, ℕ, List, sym, ap, ◌∙◌, subst}
 use Rattle.std.specs.Prelude.{IsTrue}
 use Rattle.entity_id.specs.declared.entity.Profile.{Profile}
 use Rattle.entity_id.specs.Identifiers.{p20_12}
@@ -44,7 +44,7 @@ run_keeps old new c reply (inl is) =
       profile = ap (λ (w : World). w.profile) is.0.world ∙ same.profile;
     }
 run_keeps old new c reply (inr is) = record {
-  limit = is.1.limit;
-  decls = ap (λ (w : World). w.decls) is.1.world;
-  profile = ap (λ (w : World). w.profile) is.1.world;
+  limit = is.2.limit;
+  decls = ap (λ (w : World). w.decls) is.2.world;
+  profile = ap (λ (w : World). w.profile) is.2.world;
 }
