@@ -3,3 +3,4 @@ pub mod RowLemmas
 pub mod MovingLemmas
 pub mod RenewalLemmas
 pub mod RecorderLemmas
+pub mod SequenceLemmas

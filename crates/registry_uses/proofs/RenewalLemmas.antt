@@ -1,18 +1,23 @@
 -- Identifiers made, destroyed, and made anew.
-use Rattle.std.proofs.Common.{◌≡◌, ◌≢◌, ℕ, ◌+◌, ◌<◌, true, false, ◌&&◌, not, cond, List, [], ◌∷◌, ◌++◌, length, count_by, eqb, Option, Some, None, zero, suc, refl, sym, ap, ◌∙◌, arith, set, slice_get, is_some, inl, inr}
+use Rattle.std.proofs.Common.{◌≡◌, ◌≢◌, ℕ, ◌+◌, ◌<◌, true, false, ◌&&◌, not, cond, List, [], ◌∷◌, ◌++◌, length, map, count_by, eqb, Option, Some, None, zero, suc, refl, sym, ap, ap₂, ◌∙◌, arith, set, slice_get, is_some, inl, inr}
 use Rattle.std.proofs.lemmas.Bool.{cases_Bool, cases_eq, both_ways, eq-eqb, ne_eqb}
 use Rattle.std.proofs.lemmas.Bool.Decides.{nat_tests}
 use Rattle.std.proofs.lemmas.Option.{slice_get_past}
 use Rattle.std.proofs.Math.ListN.{length-set}
+use Rattle.std.specs.List.{AllByRecursion, AllZip}
 use Rattle.std.specs.Option.{option_map_or}
+use Rattle.std.specs.Prelude.{IsTrue}
 use Rattle.entity_id.specs.declared.entity.Entity.{Entity}
 use Rattle.entity_id.specs.declared.entity.Profile.{Profile}
 use Rattle.entity_id.specs.FiniteMap as rows
-use Rattle.entity_id.specs.Identifiers.{next_version, is_profile}
+use Rattle.entity_id.specs.Identifiers.{is_same, next_version, is_profile}
+use Rattle.entity_id.proofs.MapLemmas.{same_true}
 use Rattle.entity_id.proofs.ListLemmas.{slice_get-set_same, slice_get-set_other}
 use Rattle.world_model.specs.declared.command.Command.TheVariants.{Create, Destroy}
 use Rattle.world_model.specs.declared.command.Reply.{Reply}
 use Rattle.world_model.specs.declared.command.Reply.TheVariants.{Made}
+use Rattle.world_model.specs.declared.component.Decl.{Decl}
+use Rattle.world_model.specs.declared.component.Row.{Row}
 use Rattle.world_model.specs.declared.slot.Slot.{Slot}
 use Rattle.world_model.specs.declared.world.World.{World}
 use Rattle.world_model.specs.Contents.{pool_at, has_row}
@@ -23,7 +28,7 @@ use Rattle.world_model.specs.Refusing.{refusal_of, refuse, when_no_entry, when_p
 use Rattle.world_model.specs.declared.refusal.Refusal.TheVariants.{Dead, Present}
 use Rattle.world_model.specs.Slots.{is_live, is_live_at, is_free_at, live_slot, free_slot, version_at, plain_creation, slots_after_destroy, AreLawfulSlots}
 use Rattle.world_model.specs.Steps.{step}
-use Rattle.world_model.specs.Worlds.{IsLawful}
+use Rattle.world_model.specs.Worlds.{AreLawfulRows, IsLawful}
 use Rattle.world_model.proofs.ReplyLemmas.{live_rows, made_is_known}
 use Rattle.world_model.proofs.SlotLemmas.{bit, count_cons, not_both, live_within, slot_of_live}
 use Rattle.world_model.proofs.StepLemmas.{step_cases}
@@ -159,3 +164,31 @@ same_live limit later w v u e q lawful is reply gone =
     ∙ ap (λ (v : World). is_live (slots_after_destroy v.profile v.slots e) q) (is ∙ made_world limit w e reply)
     ∙ ap (λ (e : Entity). is_live (slots_after_destroy w.profile (plain_creation w.slots w.free).slots e) q) (made_is limit w e reply).0
     ∙ made_and_gone limit w.profile w.slots w.free q lawful.slots
+
+-- an identifier that is dead has no row to lose
+no_row_lost : (slots : List Slot) (entries : List (Entity × Row)) (e : Entity) → AllByRecursion (λ entry. IsTrue (is_live slots entry.0)) entries → is_live slots e ≡ false → rows.remove entries e ≡ entries
+no_row_lost slots [] e lives dead = refl
+no_row_lost slots (entry ∷ entries) e lives dead =
+    elim (cases_Bool (is_same e entry.0)) [
+      | inl same ↦ absurd (both_ways _ dead (ap (is_live slots) (same_true e entry.0 same) ∙ lives.0))
+      | inr differ ↦ ap (λ b. cond (not b) (entry ∷ rows.remove entries e) (rows.remove entries e)) differ ∙ ap (λ l. entry ∷ l) (no_row_lost slots entries e lives.1 dead)
+    ]
+
+no_rows_lost : (profile : Profile) (slots : List Slot) (decls : List Decl) (pools : List (List (Entity × Row))) (e : Entity) → AllZip (AreLawfulRows profile slots) decls pools → is_live slots e ≡ false → map (λ pool. rows.remove pool e) pools ≡ pools
+no_rows_lost profile slots [] [] e lawful dead = refl
+no_rows_lost profile slots [] (pool ∷ pools) e lawful dead = absurd lawful
+no_rows_lost profile slots (decl ∷ decls) [] e lawful dead = absurd lawful
+no_rows_lost profile slots (decl ∷ decls) (pool ∷ pools) e lawful dead =
+    ap₂ (λ (p : List (Entity × Row)) (l : List (List (Entity × Row))). p ∷ l) (no_row_lost slots pool e lawful.0.live dead) (no_rows_lost profile slots decls pools e lawful.1 dead)
+
+-- once it is destroyed all rows are as before it was made
+pub same_rows : (limit later : ℕ) (w v u : World) (e : Entity) → IsLawful limit w → v ≡ (step limit w Create).world → (step limit w Create).reply ≡ Made e
+    → u ≡ (step later v (Destroy e)).world → u.pools ≡ w.pools
+same_rows limit later w v u e lawful is reply gone =
+    let live : is_live v.slots e ≡ true = ap (λ (u : World). is_live u.slots e) is ∙ (made_is_known limit w Create e lawful reply).live in
+    let passes : refusal_of later v (Destroy e) ≡ None = ap (λ b. refuse (not b) Dead) live in
+    let dead : is_live w.slots e ≡ false = ap (is_live w.slots) (made_is limit w e reply).0 ∙ dead_at w.slots (plain_creation w.slots w.free).entity (new_index limit w.profile w.slots w.free lawful.slots) in
+    ap (λ (u : World). u.pools) gone
+    ∙ ap (λ (o : Outcome). o.world.pools) (accepted later v (Destroy e) passes)
+    ∙ ap (λ (v : World). map (λ pool. rows.remove pool e) v.pools) (is ∙ made_world limit w e reply)
+    ∙ no_rows_lost w.profile w.slots w.decls w.pools e lawful.pools dead

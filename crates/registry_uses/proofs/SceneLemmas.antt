@@ -1,5 +1,5 @@
 -- What commands leave of a scene, and what it answers after them.
-use Rattle.std.proofs.Common.{◌≡◌, ℕ, true, false, List, [], ◌∷◌, length, Option, Some, None, Ok, Err, OnOk, OnErr, IfOk, refl, sym, ap, ◌∙◌, subst, arith, lit≤, rules}
+use Rattle.std.proofs.Common.{◌≡◌, ℕ, true, false, List, [], ◌∷◌, length, Option, Some, None, Ok, Err, OnOk, OnErr, IfOk, IfErr, refl, sym, ap, ◌∙◌, subst, arith, lit≤, rules}
 use Rattle.std.proofs.lemmas.Bool.{both_ways}
 use Rattle.std.specs.List.{AllByRecursion}
 use Rattle.std.specs.Prelude.{Result}
@@ -169,6 +169,11 @@ on_both (Err e) p q f = tt
 pub after_either : {A E P : Type 0} (r : Result A E) → OnOk r P → OnErr r P → P
 after_either (Ok x) p q = p
 after_either (Err e) p q = q
+
+-- what holds of each refusal
+pub if_refused : {A E P : Type 0} {R : E → Type 0} (r : Result A E) → OnErr r P → ((cause : E) → P → R cause) → IfErr r R
+if_refused (Ok x) p f = tt
+if_refused (Err cause) p f = f cause p
 
 -- a destruction is refused for one cause
 pub dead_reply : (limit : ℕ) (w : World) (e : Entity) (cause : Refusal) → (step limit w (Destroy e)).reply ≡ Refused cause → cause ≡ refusal.Dead

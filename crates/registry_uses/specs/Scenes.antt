@@ -1,10 +1,15 @@
 -- Scenes: the registries of the examples.
 use Rattle.std.specs.Prelude.{◌≡◌, ℕ, ℤ, pos, List, [], ◌∷◌, codes}
+use Rattle.entity_id.specs.declared.entity.Entity.{Entity}
+use Rattle.world_model.specs.declared.command.Command.{Command}
 use Rattle.world_model.specs.declared.component.Decl.{Decl}
 use Rattle.world_model.specs.declared.component.Kind.TheVariants.{Int}
 use Rattle.world_model.specs.declared.component.Row.{Row}
+use Rattle.world_model.specs.declared.world.World.{World}
+use Rattle.world_model.specs.Slots.{plain_creation}
+use Rattle.world_model.specs.Steps.{run}
 use Rattle.world_model.specs.Worlds.{IsLawful}
-use Rattle.registry.specs.Held.{Held}
+use Rattle.registry.specs.Held.{Held, Becomes}
 use Rattle.registry_uses.specs.declared.beginning.TheConstants.{SLOT_LIMIT}
 
 -- a component with this name and so many whole numbers
@@ -25,3 +30,11 @@ pub record IsScene (held : Held) : Type 0 where
 -- the row of two numbers
 abbrev pub pair : ℤ → ℤ → Row
 pair x y = record { f = x ∷ y ∷ pos 0 ∷ pos 0 ∷ [] }
+
+-- the steps of these commands one after another: their last world, and all their events
+abbrev pub DoesAll : Held → Held → List Command → Type 0
+DoesAll old new commands = let outcome = run old.limit old.world commands in Becomes old new outcome.world outcome.events
+
+-- the identifier that a world's next plain creation makes
+abbrev pub next_made : World → Entity
+next_made w = (plain_creation w.slots w.free).entity

@@ -1,13 +1,13 @@
 //! Entities made and destroyed.
 
-ghost use Rattle.std.specs.Prelude.{◌≡◌, ◌≢◌, Some, true, false, is_ok, IfOk, IfErr, OnOk, OnErr};
+ghost use Rattle.std.specs.Prelude.{◌≡◌, ◌≢◌, ◌⊎◌, [], ◌∷◌, Some, true, false, is_ok, IfOk, IfErr, OnOk, OnErr};
 ghost use Rattle.entity_id.specs.declared.entity.Entity.{Entity};
-ghost use Rattle.world_model.specs.declared.command.Command.TheVariants.{Create, Destroy, Get, Valid};
+ghost use Rattle.world_model.specs.declared.command.Command.TheVariants.{Create, Destroy, Emplace, Get, Valid};
 ghost use Rattle.world_model.specs.declared.command.Reply.TheVariants.{Made, Refused, Truth, Values};
 ghost use Rattle.world_model.specs.Refusing.{when_dead};
 ghost use Rattle.world_model.specs.Slots.{is_live};
 ghost use Rattle.registry.specs.Held.{AsBefore, Does, reply_to, refusal_to};
-ghost use Rattle.registry_uses.specs.Scenes.{pair, IsScene};
+ghost use Rattle.registry_uses.specs.Scenes.{next_made, pair, DoesAll, IsScene};
 
 use crate::beginning::POSITION;
 use crate::rows::pair_of;
@@ -18,8 +18,10 @@ use sparse_set::Steps;
 use std::sync::ledger::Ledger;
 use world_model::Refusal;
 
-/// Makes an entity at a place. `Full` exactly where no identifier can be made, and `OutOfMemory`; then
-/// the same entities are live as before. Takes memory. (EnTT: `registry.create()`, then
+/// Makes an entity at a place, and changes nothing else. `Full` exactly where no identifier can be
+/// made, and then all is as before. `OutOfMemory` too: then all is as before, or an identifier was made
+/// and destroyed again, so that the same entities are live, with the same rows, and only the slots and
+/// the free list differ. Takes memory. (EnTT: `registry.create()`, then
 /// `registry.emplace<position>(entity, x, y)`.)
 pub fn spawn<L: Listener, G: Ledger>(
     registry: &mut Registry<L>,
@@ -30,6 +32,8 @@ pub fn spawn<L: Listener, G: Ledger>(
     requires { IsScene registry.old }
     ensures scene { IsScene registry.new }
     ensures made { IfOk result (λ entity. reply_to registry.old Create ≡ Made entity) }
+    ensures does { IfOk result (λ entity. DoesAll registry.old registry.new
+        (Create ∷ Emplace entity POSITION (pair x y) ∷ [])) }
     ensures live { IfOk result (λ entity. reply_to registry.new (Valid entity) ≡ Truth true) }
     ensures place { IfOk result (λ entity.
         reply_to registry.new (Get entity POSITION) ≡ Values (pair x y)) }
@@ -38,6 +42,11 @@ pub fn spawn<L: Listener, G: Ledger>(
         is_live registry.new.world.slots other ≡ true) }
     ensures cause { IfErr result (λ refused. refused ≢ Refusal.OutOfMemory →
         refusal_to registry.old Create ≡ Some refused) }
+    ensures full { IfErr result (λ refused. refused ≡ Refusal.Full →
+        AsBefore registry.old registry.new) }
+    ensures err { OnErr result (AsBefore registry.old registry.new
+        ⊎ DoesAll registry.old registry.new (Create ∷ Destroy (next_made registry.old.world) ∷ [])) }
+    ensures rows { OnErr result (registry.new.world.pools ≡ registry.old.world.pools) }
     ensures unchanged { OnErr result ((other : Entity) →
         is_live registry.new.world.slots other ≡ is_live registry.old.world.slots other) }
 {
@@ -51,9 +60,10 @@ pub fn spawn<L: Listener, G: Ledger>(
     }
 }
 
-/// Destroys an entity with all its rows. Its identifier is stale from then on: it isn't valid, and has
-/// no row. Other entities live on. `Dead` exactly where it isn't live. No memory. (EnTT:
-/// `registry.destroy(entity)`.)
+/// Destroys an entity with all its rows. Its identifier isn't live now, and has no row. It can be live
+/// again, but only by way of a hint, or once its index was used as often again as there are versions:
+/// 4,095 times with `P20_12`. Other entities live on. `Dead` exactly where it isn't live. No memory.
+/// (EnTT: `registry.destroy(entity)`.)
 pub fn despawn<L: Listener, G: Ledger>(
     registry: &mut Registry<L>,
     entity: Entity,
@@ -74,9 +84,10 @@ pub fn despawn<L: Listener, G: Ledger>(
     registry.destroy(entity, steps)
 }
 
-/// Destroys an entity and makes one anew: it has the same index and another version, so the old
-/// identifier stays stale. `Dead` exactly where it isn't live, and `OutOfMemory`, with the old entity
-/// gone. (EnTT: `registry.destroy(entity)`, then `registry.create()`.)
+/// Destroys an entity and makes one anew, with the same index and another version, and changes nothing
+/// else. The old identifier isn't live now. `Dead` exactly where the entity isn't live, and then all is
+/// as before; and `OutOfMemory`, with the entity destroyed and none made. (EnTT:
+/// `registry.destroy(entity)`, then `registry.create()`.)
 pub fn respawn<L: Listener, G: Ledger>(
     registry: &mut Registry<L>,
     entity: Entity,
@@ -84,6 +95,7 @@ pub fn respawn<L: Listener, G: Ledger>(
 ) -> Result<Entity, Refusal>
     requires { IsScene registry.old }
     ensures scene { IsScene registry.new }
+    ensures does { OnOk result (DoesAll registry.old registry.new (Destroy entity ∷ Create ∷ [])) }
     ensures was_live { OnOk result (reply_to registry.old (Valid entity) ≡ Truth true) }
     ensures index { IfOk result (λ made. made.index ≡ entity.index) }
     ensures version { IfOk result (λ made. made.version ≢ entity.version) }
@@ -94,6 +106,10 @@ pub fn respawn<L: Listener, G: Ledger>(
         is_live registry.new.world.slots other ≡ true }
     ensures cause { IfErr result (λ refused. refused ≢ Refusal.OutOfMemory →
         when_dead registry.old.world entity ≡ Some refused) }
+    ensures dead { IfErr result (λ refused. refused ≡ Refusal.Dead →
+        AsBefore registry.old registry.new) }
+    ensures out_of_memory { IfErr result (λ refused. refused ≡ Refusal.OutOfMemory →
+        Does registry.old registry.new (Destroy entity)) }
 {
     registry.destroy(entity, steps)?;
     registry.create()

@@ -12,7 +12,8 @@ use Rattle.world_model.proofs.ReplyLemmas.{made_is_known}
 use Rattle.registry.proofs.ResultLemmas.{both_err, both_ok, if_ok}
 use Rattle.registry_uses.specs.Scenes.{IsScene}
 use Rattle.registry_uses.proofs.RenewalLemmas.{made_world, other_version, renewed, still_dead}
-use Rattle.registry_uses.proofs.SceneLemmas.{after_either, dead_after, if_both, of_destroys, on_both, scene_after, scene_by, was_done}
+use Rattle.registry_uses.proofs.SequenceLemmas.{does_alone, does_both}
+use Rattle.registry_uses.proofs.SceneLemmas.{after_either, dead_after, if_both, if_refused, of_destroys, on_both, scene_after, scene_by, was_done}
 use Rattle.registry_uses.proofs.spawning.respawn.Goals as goal
 
 pub returns-clause-scene : goal.returns-clause-scene
@@ -54,3 +55,11 @@ returns-clause-others g c other apart live =
     after_either c.create.result
     (both_ok c.create.result c.create.ensures.ok c.create.ensures.ok (λ does _. ap (λ (w : World). is_live w.slots other) does.world ∙ lives_on c.destroy.new.self.limit c.destroy.new.self.world Create other gone.lawful still (λ same. cc)))
     (both_err c.create.result c.create.ensures.err c.create.ensures.err (λ before _. ap (λ (w : World). is_live w.slots other) before.world ∙ still))
+
+pub returns-clause-does : goal.returns-clause-does
+returns-clause-does g c =
+    both_ok c.create.result c.create.ensures.ok c.create.ensures.ok (λ does _. does_both c.args.registry.now c.destroy.new.self c.create.new.self (Destroy c.args.entity) Create c.destroy.ensures.does does)
+
+pub returns-clause-out_of_memory : goal.returns-clause-out_of_memory
+returns-clause-out_of_memory g c =
+    if_refused c.create.result c.create.ensures.err (λ cause before _. does_alone c.args.registry.now c.destroy.new.self c.create.new.self (Destroy c.args.entity) c.destroy.ensures.does before)

@@ -1,4 +1,4 @@
-use Rattle.std.proofs.Common.{◌≡◌, ◌∙◌, true, refl, sym, subst, ap}
+use Rattle.std.proofs.Common.{◌≡◌, ◌∙◌, true, [], ◌∷◌, inr, refl, sym, subst, ap}
 use Rattle.std.proofs.lemmas.Option.{none-some}
 use Rattle.world_model.specs.declared.command.Command.TheVariants.{Create, Destroy, Emplace}
 use Rattle.world_model.specs.declared.command.Reply.TheVariants.{Values}
@@ -11,8 +11,11 @@ use Rattle.world_model.specs.Slots.{is_live}
 use Rattle.world_model.specs.Steps.{step}
 use Rattle.world_model.proofs.LivingLemmas.{lives_on}
 use Rattle.registry_uses.specs.declared.beginning.TheConstants.{POSITION}
-use Rattle.registry_uses.specs.Scenes.{pair, IsScene}
-use Rattle.registry_uses.proofs.RenewalLemmas.{new_may_enter, same_live}
+use Rattle.registry_uses.specs.Scenes.{next_made, pair, DoesAll, IsScene}
+use Rattle.registry_uses.proofs.SequenceLemmas.{does_alone, does_both}
+use Rattle.entity_id.specs.declared.entity.Entity.{Entity}
+use Rattle.world_model.specs.declared.component.Row.{Row}
+use Rattle.registry_uses.proofs.RenewalLemmas.{made_is, new_may_enter, same_live, same_rows}
 use Rattle.registry_uses.proofs.RowLemmas.{may_set_place, pair_given, set_is_told}
 use Rattle.registry_uses.proofs.SceneLemmas.{is_declared, scene_after, scene_as_before, was_done}
 use Rattle.registry_uses.proofs.spawning.spawn.Goals as goal
@@ -51,3 +54,31 @@ returns-in-Ok-clause-others g c other live =
     let made : IsScene c.create.new.self = scene_after c.args.registry.now c.create.new.self Create c.requires tt refl c.in_ok-entity.ensures.ok in
     let still : is_live c.create.new.self.world.slots other ≡ true = ap (λ (w : World). is_live w.slots other) c.in_ok-entity.ensures.ok.world ∙ lives_on c.args.registry.now.limit c.args.registry.now.world Create other c.requires.lawful live (λ same. cc) in
     ap (λ (w : World). is_live w.slots other) c.in-Ok.ensures.ok.world ∙ lives_on c.create.new.self.limit c.create.new.self.world (Emplace c.in_ok-entity.entity POSITION c.pair_of.result) other made.lawful still (λ same. cc)
+
+pub returns-in-Ok-clause-does : goal.returns-in-Ok-clause-does
+returns-in-Ok-clause-does g c =
+    let old = c.args.registry.now in
+    let entity = c.in_ok-entity.entity in
+    let row : c.pair_of.result ≡ pair c.args.x c.args.y = c.pair_of.ensures.row ∙ pair_given c.args.x c.args.y c.ranges.x c.ranges.y in
+    subst (λ (r : Row). DoesAll old c.emplace.new.self (Create ∷ Emplace entity POSITION r ∷ [])) row
+    (does_both old c.create.new.self c.emplace.new.self Create (Emplace entity POSITION c.pair_of.result) c.in_ok-entity.ensures.ok c.in-Ok.ensures.ok)
+
+pub returns-in-Err-clause-full : goal.returns-in-Err-clause-full
+returns-in-Err-clause-full g c full =
+    let made : IsScene c.create.new.self = scene_after c.args.registry.now c.create.new.self Create c.requires tt refl c.in_ok-entity.ensures.ok in
+    let enters = new_may_enter c.args.registry.now.limit c.args.registry.now.world c.create.new.self.world POSITION c.in_ok-entity.entity c.requires.lawful c.in_ok-entity.ensures.ok.world c.in_ok-entity.ensures.reply (is_declared c.create.new.self POSITION made refl) in
+    absurd (none-some c.in-Err.refused (sym enters ∙ c.in-Err.ensures.cause (λ memory. cc)))
+
+pub returns-in-Err-clause-err : goal.returns-in-Err-clause-err
+returns-in-Err-clause-err g c =
+    let old = c.args.registry.now in
+    let entity = c.in_ok-entity.entity in
+    let next : entity ≡ next_made old.world = (made_is old.limit old.world entity c.in_ok-entity.ensures.reply).0 in
+    let made = does_alone old c.create.new.self c.emplace.new.self Create c.in_ok-entity.ensures.ok c.in-Err.ensures.err in
+    inr (subst (λ (q : Entity). DoesAll old c.destroy.new.self (Create ∷ Destroy q ∷ [])) next
+    (does_both old c.emplace.new.self c.destroy.new.self Create (Destroy entity) made c.destroy.ensures.does))
+
+pub returns-in-Err-clause-rows : goal.returns-in-Err-clause-rows
+returns-in-Err-clause-rows g c =
+    same_rows c.args.registry.now.limit c.emplace.new.self.limit c.args.registry.now.world c.create.new.self.world c.destroy.new.self.world c.in_ok-entity.entity c.requires.lawful c.in_ok-entity.ensures.ok.world c.in_ok-entity.ensures.reply
+    (c.destroy.ensures.does.world ∙ ap (λ (w : World). (step c.emplace.new.self.limit w (Destroy c.in_ok-entity.entity)).world) c.in-Err.ensures.err.world)
