@@ -18,7 +18,6 @@ use Rattle.world_model.specs.declared.command.Command.TheVariants.{Replace}
 use Rattle.world_model.specs.declared.component.Row.{Row}
 use Rattle.world_model.specs.declared.refusal.Refusal.{Refusal}
 use Rattle.world_model.specs.declared.refusal.Refusal.TheVariants as refusal
-use Rattle.world_model.specs.declared.slot.Slot.{Slot}
 use Rattle.world_model.specs.declared.world.World.{World}
 use Rattle.world_model.specs.Components.{zero_row}
 use Rattle.world_model.specs.Contents.{has_row, pool_at, keys_of, with_pool}
@@ -31,7 +30,7 @@ use Rattle.world_model.proofs.ReplyLemmas.{live_rows}
 use Rattle.world_model.proofs.SlotLemmas.{live_once}
 use Rattle.registry.proofs.ViewLemmas.{is_in_pool}
 use Rattle.registry_uses.specs.declared.beginning.TheConstants.{POSITION, VELOCITY, FROZEN}
-use Rattle.registry_uses.specs.Moving.{moved, next_place, is_moving, IsMoved}
+use Rattle.registry_uses.specs.Moving.{moved, next_place, is_moving, IsMoved, IsPartlyMoved}
 use Rattle.registry_uses.proofs.RowLemmas.{pool_set}
 use Rattle.registry_uses.proofs.SceneLemmas.{entry_passes}
 
@@ -40,11 +39,10 @@ pub record HaveMoved (old new : World) (list : List Entity) : Type 0 where
   pub moving : (e : Entity) → list_any (is_same e) list ≡ true → rows.get (pool_at new POSITION) e ≡ Some (next_place old e)
   pub standing : (e : Entity) → list_any (is_same e) list ≡ false → rows.get (pool_at new POSITION) e ≡ rows.get (pool_at old POSITION) e
   pub pools : (pool : ℕ) → pool ≢ POSITION → pool_at new pool ≡ pool_at old pool
-  pub slots : new.slots ≡ old.slots
-  pub free : new.free ≡ old.free
+  pub rest : new ≡ record old { pools = new.pools }
 
 pub none_moved : (w : World) → HaveMoved w w []
-none_moved w = record { moving = λ e h. absurd (both_ways _ refl h); standing = λ e _. refl; pools = λ pool _. refl; slots = refl; free = refl }
+none_moved w = record { moving = λ e h. absurd (both_ways _ refl h); standing = λ e _. refl; pools = λ pool _. refl; rest = refl }
 
 -- where all that match have moved, all that move have
 pub all_moved : (old new : World) → HaveMoved old new (matches (keys_of old) (POSITION ∷ VELOCITY ∷ []) (FROZEN ∷ [])) → IsMoved old new
@@ -54,9 +52,34 @@ all_moved old new h =
       moving = λ e moves. h.moving e (same e ∙ moves);
       standing = λ e stands. h.standing e (same e ∙ stands);
       pools = h.pools;
-      slots = h.slots;
-      free = h.free;
+      rest = h.rest;
     }
+
+-- where some that move have moved, each is at its next place or where it was
+pub some_moved : (old new : World) (list : List Entity) → HaveMoved old new list → ((e : Entity) → list_any (is_same e) list ≡ true → is_moving old e ≡ true) → IsPartlyMoved old new
+some_moved old new list h moves = record {
+  places = λ e. elim (cases_Bool (list_any (is_same e) list)) [
+    | inl there ↦ inr (moves e there, h.moving e there)
+    | inr none ↦ inl (h.standing e none)
+  ];
+  pools = h.pools;
+  rest = h.rest;
+}
+
+pub unmoved : (w : World) → IsPartlyMoved w w
+unmoved w = some_moved w w [] (none_moved w) (λ e there. absurd (both_ways _ refl there))
+
+-- what is among the first is among all
+pub among_first : (list : List Entity) (k : ℕ) (e : Entity) → list_any (is_same e) (take k list) ≡ true → list_any (is_same e) list ≡ true
+among_first list zero e there = absurd (both_ways _ refl there)
+among_first [] (suc k) e there = there
+among_first (x ∷ xs) (suc k) e there =
+    elim (cases_Bool (is_same e x)) [
+      | inl same ↦ ap (λ (b : Bool). b || list_any (is_same e) xs) same
+      | inr differ ↦
+          let later : list_any (is_same e) (take k xs) ≡ true = sym (ap (λ (b : Bool). b || list_any (is_same e) (take k xs)) differ) ∙ there in
+          ap (λ (b : Bool). b || list_any (is_same e) xs) differ ∙ among_first xs k e later
+    ]
 
 -- an identifier of an ascending list isn't among those before it
 pub fresh_at : (list : List Entity) (k : ℕ) (x : Entity) → rows.AreAscending list → slice_get list k ≡ Some x → list_any (is_same x) (take k list) ≡ false
@@ -115,8 +138,7 @@ moved_more limit old now list x lawful h fresh passes =
         | inr differ ↦ at_other e differ ∙ h.standing e (sym (among e differ) ∙ none)
       ];
       pools = λ pool apart. get_or-set_other now.pools POSITION pool _ [] apart ∙ h.pools pool apart;
-      slots = h.slots;
-      free = h.free;
+      rest = ap (λ (w : World). record w { pools = (with_pool now POSITION (rows.put (pool_at now POSITION) x next)).pools }) h.rest;
     }
   where
     or_last : (a b : Bool) → b ≡ false → (a || (b || false)) ≡ a
@@ -155,7 +177,7 @@ pub may_move : (limit : ℕ) (old now : World) (list : List Entity) (x : Entity)
     → are_declared (length now.decls) (pool ∷ []) ≡ true → (pool ≡ POSITION) ⊎ (pool ≡ VELOCITY) → when_no_entry now pool x (when_absent now pool x) ≡ None
 may_move limit old now list x pool lawful h fresh moves declared which =
     let has = moving_rows old x moves in
-    let live : is_live now.slots x ≡ true = ap (λ (slots : List Slot). is_live slots x) h.slots ∙ live_of limit old POSITION x lawful has.0 in
+    let live : is_live now.slots x ≡ true = ap (λ (w : World). is_live w.slots x) h.rest ∙ live_of limit old POSITION x lawful has.0 in
     let there : has_row now pool x ≡ true = elim which [
       | inl place ↦ ap (λ (p : ℕ). has_row now p x) place ∙ ap is_some (h.standing x fresh) ∙ has.0
       | inr velocity ↦ ap (λ (p : ℕ). has_row now p x) velocity ∙ ap (λ (l : List (Entity × Row)). rows.contains l x) (h.pools VELOCITY (λ same. omega (arith, same))) ∙ has.1

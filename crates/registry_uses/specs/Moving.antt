@@ -1,5 +1,5 @@
 -- Places after one tick.
-use Rattle.std.specs.Prelude.{◌≡◌, ◌≢◌, ℕ, ℤ, ◌+ℤ◌, Bool, true, false, [], ◌∷◌, Some}
+use Rattle.std.specs.Prelude.{◌≡◌, ◌≢◌, ◌⊎◌, ℕ, ℤ, ◌+ℤ◌, Bool, true, false, [], ◌∷◌, Some}
 use Rattle.std.specs.Int.{w64, saturate_signed}
 use Rattle.entity_id.specs.declared.entity.Entity.{Entity}
 use Rattle.entity_id.specs.FiniteMap as rows
@@ -33,5 +33,11 @@ pub record IsMoved (old new : World) : Type 0 where
   pub moving : (entity : Entity) → is_moving old entity ≡ true → rows.get (pool_at new POSITION) entity ≡ Some (next_place old entity)
   pub standing : (entity : Entity) → is_moving old entity ≡ false → rows.get (pool_at new POSITION) entity ≡ rows.get (pool_at old POSITION) entity
   pub pools : (pool : ℕ) → pool ≢ POSITION → pool_at new pool ≡ pool_at old pool
-  pub slots : new.slots ≡ old.slots
-  pub free : new.free ≡ old.free
+  pub rest : new ≡ record old { pools = new.pools }
+
+-- each place is as before, or an entity that moves is at its next place; and all else is as before
+pub record IsPartlyMoved (old new : World) : Type 0 where
+  pub places : (entity : Entity) → (rows.get (pool_at new POSITION) entity ≡ rows.get (pool_at old POSITION) entity)
+      ⊎ ((is_moving old entity ≡ true) × (rows.get (pool_at new POSITION) entity ≡ Some (next_place old entity)))
+  pub pools : (pool : ℕ) → pool ≢ POSITION → pool_at new pool ≡ pool_at old pool
+  pub rest : new ≡ record old { pools = new.pools }

@@ -4,7 +4,7 @@ ghost use Rattle.std.specs.Prelude.{◌≡◌, ◌≢◌, ◌⊎◌, Some, IfOk,
 ghost use Rattle.world_model.specs.declared.command.Command.TheVariants.{Get, Replace};
 ghost use Rattle.world_model.specs.declared.command.Reply.TheVariants.{Done};
 ghost use Rattle.registry.specs.Held.{AsBefore, Does, reply_to, refusal_to};
-ghost use Rattle.registry_uses.specs.Moving.{next_place, IsMoved};
+ghost use Rattle.registry_uses.specs.Moving.{next_place, IsMoved, IsPartlyMoved};
 ghost use Rattle.registry_uses.specs.Scenes.{IsScene};
 
 use crate::beginning::{FROZEN, POSITION, VELOCITY};
@@ -16,12 +16,13 @@ use std::alloc::Global;
 use world_model::Refusal;
 
 /// Moves all that have a place and a velocity and aren't frozen. Refused for want of memory alone, and
-/// then some of them have moved. Takes memory. (EnTT: a loop over
-/// `registry.view<position, velocity>(entt::exclude<frozen>)`.)
+/// then each of them is at its next place or where it was. All else of the world is as before. Takes
+/// memory. (EnTT: a loop over `registry.view<position, velocity>(entt::exclude<frozen>)`.)
 pub fn advance_all<L: Listener>(alloc: Global, registry: &mut Registry<L>) -> Result<(), Refusal>
     requires { IsScene registry.old }
     ensures scene { IsScene registry.new }
     ensures ok { OnOk result (IsMoved registry.old.world registry.new.world) }
+    ensures err { OnErr result (IsPartlyMoved registry.old.world registry.new.world) }
     ensures cause { IfErr result (λ refused. refused ≡ Refusal.OutOfMemory) }
 {
     let moving = pools_of(alloc, &[POSITION, VELOCITY])?;

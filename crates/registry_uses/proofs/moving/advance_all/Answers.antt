@@ -12,9 +12,10 @@ use Rattle.world_model.specs.declared.world.World.{World}
 use Rattle.world_model.specs.Contents.{keys_of, pool_at, with_pool}
 use Rattle.world_model.specs.Orders.{is_refused}
 use Rattle.world_model.proofs.KeyLemmas.{ascending_view}
+use Rattle.registry.proofs.ResultLemmas.{all_err}
 use Rattle.registry_uses.specs.declared.beginning.TheConstants.{POSITION, VELOCITY, FROZEN}
-use Rattle.registry_uses.specs.Moving.{is_moving, next_place}
-use Rattle.registry_uses.proofs.MovingLemmas.{HaveMoved, all_moved, among, fresh_at, may_move, moved_more, only_memory}
+use Rattle.registry_uses.specs.Moving.{is_moving, next_place, IsPartlyMoved}
+use Rattle.registry_uses.proofs.MovingLemmas.{HaveMoved, all_moved, among, among_first, some_moved, fresh_at, may_move, moved_more, only_memory}
 use Rattle.registry_uses.proofs.SceneLemmas.{is_declared, was_done}
 use Rattle.registry_uses.proofs.moving.advance_all.Goals as goal
 
@@ -62,3 +63,13 @@ returns-in_err-advance-clause-cause g c =
       | inr refused ↦ none-some c.in_err-advance.field-0.0 (sym velocity ∙ refused)
     ]) in
     search (rules, cause)
+
+pub returns-in_err-advance-clause-err : goal.returns-in_err-advance-clause-err
+returns-in_err-advance-clause-err g c =
+    let old = c.args.registry.now.world in
+    let items : List Entity = c.as_slice-entity-items.result.now in
+    let k = c.loop-entity.entity-index in
+    let so_far = c.loop-entity.invariant in
+    let some = some_moved old c.loop-entity.registry.world (take k items) so_far.moved (λ e there.
+    sym (any-matches (keys_of old) POSITION (VELOCITY ∷ []) (FROZEN ∷ []) e) ∙ ap (list_any (is_same e)) (sym so_far.listed) ∙ among_first items k e there) in
+    all_err c.from_residual-in_err-advance.result (subst (λ (w : World). IsPartlyMoved old w) (sym c.in_err-advance.ensures.err.world) some)
