@@ -2,9 +2,11 @@
 //! gets, as EnTT 3.10 has it.
 //!
 //! An index is given out again once its owner was destroyed, with the next version, so that the old
-//! identifier stays dead; the index that was released last is reused first. [`EntitySlots`] does
-//! this, and `specs/SlotLists.antt` says what a contract sees of it. What one creation makes of the
-//! lists stands in the crate world_model (`specs/Slots.antt`).
+//! identifier is dead. It can be live again, but only by way of a hint, or once its index was used as
+//! often again as there are versions (4,095 with the profile `P20_12`). The index that was released
+//! last is reused first. [`EntitySlots`] does this, and `specs/SlotLists.antt` says what a contract
+//! sees of it. What one creation makes of the lists stands in the crate world_model
+//! (`specs/Slots.antt`).
 #![tactic(auto)]
 
 mod creation;

@@ -23,8 +23,10 @@ use world_model::{EventKind, Refusal};
 
 /// Destroys an entity while a recorder listens for places that go, and gives the recorder back: it
 /// heard of the entity's place, where it had one, and of nothing else. `TooMany` where 8 listeners
-/// were connected there before, `Dead` exactly where the entity isn't live, and `OutOfMemory`; then the
-/// world is as before. (EnTT: `registry.on_destroy<position>().connect<..>()`.)
+/// have been connected there before, then `Dead` exactly where the entity isn't live, and
+/// `OutOfMemory`; then the world is as before. A call that ends well or with `Dead` uses up one of those
+/// 8 connections for ever, so that on one registry the ninth such call is `TooMany`. (EnTT:
+/// `registry.on_destroy<position>().connect<..>()`.)
 pub fn heard_of_end<G: Ledger>(
     alloc: Global,
     registry: &mut Registry<Recorder>,
