@@ -1,5 +1,5 @@
 -- What a recorder hears between its connection and its disconnection.
-use Rattle.std.proofs.Common.{◌≡◌, ℕ, ◌<◌, true, false, cond, List, [], ◌∷◌, ◌++◌, map, length, Option, Some, None, refl, sym, ap, ◌∙◌, arith, get_or, slice_get}
+use Rattle.std.proofs.Common.{◌≡◌, ℕ, ◌<◌, true, false, cond, List, [], ◌∷◌, ◌++◌, map, length, Option, Some, None, refl, sym, ap, ◌∙◌, arith, get_or, slice_get, set, ◌+◌, length-append, length-set}
 use Rattle.std.specs.Option.{option_map, option_map_or}
 use Rattle.std.proofs.lemmas.List.{length-map}
 use Rattle.std.proofs.lemmas.Option.{none-some, same_Some, slice_get-map}
@@ -74,3 +74,23 @@ still_connected old mid after e number is connected does =
     of_place None heard h = absurd (none-some (Some heard) h)
     of_place (Some None) heard h = absurd (none-some heard (same_Some None (Some heard) h))
     of_place (Some (Some hearing)) heard h = refl
+
+-- ---- connections used up
+
+-- a list with one more behind it, of which another is made item by item
+length_more : {X : Type 0} (f : X → X) (now mid before : List X) (x : X) → now ≡ map f mid → mid ≡ before ++ x ∷ [] → length now ≡ length before + 1
+length_more f now mid before x is behind = ap length is ∙ length-map mid f ∙ ap length behind ∙ length-append before (x ∷ [])
+
+-- a recorder that was connected and disconnected has used up a number
+pub one_used : (old mid after new : Held) (e : Entity) (number : ℕ) → heard_lists (listeners_at mid event.Destroy POSITION) ≡ heard_lists (listeners_at old event.Destroy POSITION) ++ Some [] ∷ []
+    → Does mid after (Destroy e) → listeners_at new event.Destroy POSITION ≡ set (listeners_at after event.Destroy POSITION) number None
+    → length (listeners_at new event.Destroy POSITION) ≡ length (listeners_at old event.Destroy POSITION) + 1
+one_used old mid after new e number connected does gone =
+    let events : List Event = (step mid.limit mid.world (Destroy e)).events in
+    let heard : heard_lists (listeners_at after event.Destroy POSITION) ≡ heard_after event.Destroy POSITION events (heard_lists (listeners_at mid event.Destroy POSITION)) = at_first heard_lists (λ hearings. heard_after event.Destroy POSITION events (heard_lists hearings)) mid.destroy after.destroy [] refl (does.destroy POSITION) in
+    let there : length (listeners_at new event.Destroy POSITION) ≡ length (listeners_at after event.Destroy POSITION) = ap length gone ∙ length-set (listeners_at after event.Destroy POSITION) number None in
+    let lists : length (heard_lists (listeners_at after event.Destroy POSITION)) ≡ length (heard_lists (listeners_at old event.Destroy POSITION)) + 1 = length_more _ _ _ (heard_lists (listeners_at old event.Destroy POSITION)) (Some []) heard connected in
+    there
+    ∙ sym (length-map (listeners_at after event.Destroy POSITION) (option_map (λ (h : Hearing). h.heard)))
+    ∙ lists
+    ∙ ap (λ (n : ℕ). n + 1) (length-map (listeners_at old event.Destroy POSITION) (option_map (λ (h : Hearing). h.heard)))

@@ -1,6 +1,6 @@
 //! A listener connected for a while.
 
-ghost use Rattle.std.specs.Prelude.{◌≡◌, ◌≢◌, [], ◌∷◌, length, true, if◌then◌else◌, false, IfOk, IfErr, OnOk, OnErr};
+ghost use Rattle.std.specs.Prelude.{◌≡◌, ◌≢◌, ◌+◌, [], ◌∷◌, length, true, if◌then◌else◌, false, IfOk, IfErr, OnOk, OnErr};
 ghost use Rattle.signal_sink.specs.Hearings.{listener_limit};
 ghost use Rattle.world_model.specs.declared.command.Command.TheVariants.{Destroy, Valid};
 ghost use Rattle.world_model.specs.declared.command.Reply.TheVariants.{Truth};
@@ -46,6 +46,11 @@ pub fn heard_of_end<G: Ledger>(
         reply_to registry.old (Valid entity) ≡ Truth false) }
     ensures too_many { IfErr result (λ refused. refused ≡ Refusal.TooMany →
         length (listeners_at registry.old event.Destroy POSITION) ≡ listener_limit) }
+    ensures used { OnOk result (length (listeners_at registry.new event.Destroy POSITION)
+        ≡ length (listeners_at registry.old event.Destroy POSITION) + 1) }
+    ensures used_by_dead { IfErr result (λ refused. refused ≡ Refusal.Dead →
+        length (listeners_at registry.new event.Destroy POSITION)
+        ≡ length (listeners_at registry.old event.Destroy POSITION) + 1) }
     ensures cause { IfErr result (λ refused. refused ≢ Refusal.Dead →
         refused ≢ Refusal.TooMany → refused ≡ Refusal.OutOfMemory) }
 {

@@ -8,7 +8,7 @@ use Rattle.world_model.specs.Orders.{is_refused}
 use Rattle.registry.specs.Listeners.{listeners_at}
 use Rattle.registry_uses.specs.declared.beginning.TheConstants.{POSITION}
 use Rattle.registry_uses.specs.Scenes.{IsScene}
-use Rattle.registry_uses.proofs.RecorderLemmas.{heard_of_place, still_connected}
+use Rattle.registry_uses.proofs.RecorderLemmas.{heard_of_place, one_used, still_connected}
 use Rattle.registry_uses.proofs.SceneLemmas.{dead_reply, scene_after, scene_stays, was_done}
 use Rattle.registry_uses.proofs.listening.heard_of_end.Goals as goal
 
@@ -52,3 +52,14 @@ returns-in_err-ended-clause-cause g c =
     let dead = dead_reply c.connect.new.self.limit c.connect.new.self.world c.args.entity c.in_err-ended.field-0.0 c.in_err-ended.ensures.err in
     let cause : c.in_err-ended.field-0.0 ≢ Dead → c.in_err-ended.field-0.0 ≢ TooMany → c.in_err-ended.field-0.0 ≡ OutOfMemory = λ other _. absurd (other dead) in
     search (rules, cause)
+
+pub returns-clause-used : goal.returns-clause-used
+returns-clause-used g c =
+    let connected : heard_lists (listeners_at c.connect.new.self event.Destroy POSITION) ≡ heard_lists (listeners_at c.args.registry.now event.Destroy POSITION) ++ Some [] ∷ [] = c.in-Ok.ensures.heard ∙ ap (λ (h : Hearing). heard_lists (listeners_at c.args.registry.now event.Destroy POSITION) ++ Some h.heard ∷ []) c.new.ensures in
+    one_used c.args.registry.now c.connect.new.self c.destroy-ended.new.self c.disconnect.new.self c.args.entity c.in-Ok.number connected c.destroy-ended.ensures.does c.in_ok-recorder.ensures.gone
+
+pub returns-in_err-ended-clause-used_by_dead : goal.returns-in_err-ended-clause-used_by_dead
+returns-in_err-ended-clause-used_by_dead g c =
+    let connected : heard_lists (listeners_at c.connect.new.self event.Destroy POSITION) ≡ heard_lists (listeners_at c.args.registry.now event.Destroy POSITION) ++ Some [] ∷ [] = c.in-Ok.ensures.heard ∙ ap (λ (h : Hearing). heard_lists (listeners_at c.args.registry.now event.Destroy POSITION) ++ Some h.heard ∷ []) c.new.ensures in
+    let used = one_used c.args.registry.now c.connect.new.self c.destroy-ended.new.self c.disconnect.new.self c.args.entity c.in-Ok.number connected c.destroy-ended.ensures.does c.in_ok-recorder.ensures.gone in
+    search (rules, used)
