@@ -106,6 +106,30 @@ fn hear_in<G: Ledger>(rt: &impl Abort, alloc: Global, blank: Blank)
 }
 
 #[test]
+fn the_ninth_recorder_is_one_too_many(rt: HostRuntime) {
+    use_up_in::<Brand>(&rt, rt.alloc(), Blank::new(1));
+}
+
+fn use_up_in<G: Ledger>(rt: &impl Abort, alloc: Global, blank: Blank)
+    requires name { blank.name ≡ G.name }
+    requires parts { blank.parts ≡ G.parts }
+    requires some { 0 < blank.parts }
+{
+    let mut steps = Steps::<G>::new(blank);
+    let mut registry = scene(rt, alloc);
+    let nobody = Entity {
+        index: 0,
+        version: 0,
+    };
+    for _ in 0..8 {
+        let refused = heard_of_end(alloc, &mut registry, nobody, &mut steps).err();
+        assert_eq!(rt; refused, Some(Refusal::Dead));
+    }
+    let refused = heard_of_end(alloc, &mut registry, nobody, &mut steps).err();
+    assert_eq!(rt; refused, Some(Refusal::TooMany));
+}
+
+#[test]
 fn a_copy_answers_as_the_scene_does(rt: HostRuntime) {
     copy_in::<Brand>(&rt, rt.alloc(), Blank::new(1));
 }

@@ -1,8 +1,10 @@
 use Rattle.std.proofs.Common.{◌≡◌, ◌∙◌, true, [], ◌∷◌, inr, refl, sym, subst, ap}
 use Rattle.std.proofs.lemmas.Option.{none-some}
+use Rattle.entity_id.specs.declared.entity.Entity.{Entity}
 use Rattle.world_model.specs.declared.command.Command.TheVariants.{Create, Destroy, Emplace}
 use Rattle.world_model.specs.declared.command.Reply.TheVariants.{Values}
 use Rattle.world_model.specs.declared.world.World.{World}
+use Rattle.world_model.specs.declared.component.Row.{Row}
 use Rattle.world_model.specs.Components.{IsRow}
 use Rattle.world_model.specs.Conditions.{MaySet}
 use Rattle.world_model.specs.Orders.{is_refused}
@@ -13,8 +15,6 @@ use Rattle.world_model.proofs.LivingLemmas.{lives_on}
 use Rattle.registry_uses.specs.declared.beginning.TheConstants.{POSITION}
 use Rattle.registry_uses.specs.Scenes.{next_made, pair, DoesAll, IsScene}
 use Rattle.registry_uses.proofs.SequenceLemmas.{does_alone, does_both}
-use Rattle.entity_id.specs.declared.entity.Entity.{Entity}
-use Rattle.world_model.specs.declared.component.Row.{Row}
 use Rattle.registry_uses.proofs.RenewalLemmas.{made_is, new_may_enter, same_live, same_rows}
 use Rattle.registry_uses.proofs.RowLemmas.{may_set_place, pair_given, set_is_told}
 use Rattle.registry_uses.proofs.SceneLemmas.{is_declared, scene_after, scene_as_before, was_done}
