@@ -1,6 +1,6 @@
 //! What a hint does that names a free index, or one past the last slot.
 
-ghost use Rattle.std.specs.Prelude.{◌≡◌, ◌+◌, ◌-◌, ◌<◌, ◌≤◌, ◌==◌, ◌^◌, not, [], ◌∷◌, ◌++◌, filter, length, replicate, slice_set, vec_capacity, IfOk, OnOk, OnErr};
+ghost use Rattle.std.specs.Prelude.{◌≡◌, ◌+◌, ◌-◌, ◌<◌, ◌≤◌, ◌==◌, ◌^◌, not, [], ◌∷◌, ◌++◌, filter, length, replicate, slice_set, vec_capacity, IsOk, IfOk, OnOk, OnErr};
 ghost use Rattle.std.specs.List.{range_with_len};
 ghost use Rattle.world_model.specs.Slots.{free_slot, is_live_at, is_plain_hint, live_slot};
 
@@ -54,6 +54,8 @@ pub(super) fn append_past(
         ++ range_with_len (length slots.old.items) (hint.index - length slots.old.items)) }
     ensures slots_err { OnErr result (slots.new.items ≡ slots.old.items) }
     ensures free_err { OnErr result (free.new.items ≡ free.old.items) }
+    ensures ready { hint.index + 1 ≤ vec_capacity slots.old
+        → hint.index + 1 ≤ vec_capacity free.old → IsOk result }
     ensures slots_kept { vec_capacity slots.old ≤ vec_capacity slots.new }
     ensures free_kept { vec_capacity free.old ≤ vec_capacity free.new }
     ensures slots_fit { OnOk result (hint.index + 1 ≤ vec_capacity slots.new) }
