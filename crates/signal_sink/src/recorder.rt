@@ -1,6 +1,6 @@
 //! A listener that keeps the list of what it heard.
 
-ghost use Rattle.std.specs.Prelude.{◌≡◌, []};
+ghost use Rattle.std.specs.Prelude.{◌≡◌, ◌≤◌, [], IsOk, OnOk, OnErr};
 
 use super::Listener;
 use entity_id::OutOfMemory;
@@ -52,7 +52,15 @@ impl Listener for Recorder {
 
     ghost spare = { λ hearing. hearing.spare };
 
-    fn reserve(&mut self, n: u64) -> Result<(), OutOfMemory> {
+    /// Makes room for `n` events. `OutOfMemory` where there is no memory for them, never where it has
+    /// that room, and then all is as before. Takes memory.
+    fn reserve(&mut self, n: u64) -> Result<(), OutOfMemory>
+        ensures ok { OnOk result (n ≤ self.new.spare) }
+        ensures heard { self.new.heard ≡ self.old.heard }
+        ensures room { self.old.spare ≤ self.new.spare }
+        ensures ready { n ≤ self.old.spare → IsOk result }
+        ensures err { OnErr result (self.new ≡ self.old) }
+    {
         let wanted = n as usize;
         if wanted > self.spare {
             self.events.reserve(wanted)?;

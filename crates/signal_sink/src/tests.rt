@@ -20,7 +20,7 @@ fn is_shared<T: Send + Sync>(_value: &T) {}
 fn a_recorder_keeps_what_it_heard(rt: HostRuntime) {
     let mut recorder = Recorder::new(rt.alloc());
     assert_eq!(rt; recorder.heard(), [].as_slice());
-    recorder.reserve(2).expect(&rt, "memory");
+    recorder.reserve(100_000).expect(&rt, "memory");
     recorder.notify(event(5));
     recorder.notify(event(3));
     assert_eq!(rt; recorder.heard(), [event(5), event(3)].as_slice());
