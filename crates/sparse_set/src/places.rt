@@ -1,6 +1,6 @@
 //! A packed list, and the list that has each identifier's place under its index.
 
-ghost use Rattle.std.specs.Prelude.{◌≡◌, ℕ, ◌+◌, ◌<◌, ◌≤◌, ◌^◌, [], ◌∷◌, ◌++◌, List, length, Some, false, OnOk, IfSome, slice_get};
+ghost use Rattle.std.specs.Prelude.{◌≡◌, ℕ, ◌+◌, ◌<◌, ◌≤◌, ◌^◌, [], ◌∷◌, ◌++◌, List, length, Some, false, IsOk, OnOk, IfSome, slice_get};
 ghost use Rattle.std.specs.List.{swap};
 ghost use Rattle.std.specs.Vec.{vec_capacity};
 ghost use Rattle.entity_id.specs.declared.entity.Entity.{Entity};
@@ -48,6 +48,8 @@ pub fn reserve_packed(packed: &mut Vec<Entity>, n: usize) -> Result<(), OutOfMem
     ensures items { packed.new.items ≡ packed.old.items }
     ensures ok { OnOk result (length packed.old.items + n ≤ vec_capacity packed.new) }
     ensures few { OnOk result (length packed.old.items + n < 2 ^ 32) }
+    ensures ready { length packed.old.items + n < 2 ^ 32
+        → length packed.old.items + n ≤ vec_capacity packed.old → IsOk result }
     ensures capacity { vec_capacity packed.old ≤ vec_capacity packed.new }
 {
     if n > u32::MAX as usize - packed.len() || packed.reserve(n).is_err() {
@@ -61,6 +63,7 @@ pub fn grow(places: &mut Vec<u32>, len: usize) -> Result<(), OutOfMemory>
     ensures placed { (packed : List Entity) →
         ArePlaced packed places.old.items → ArePlaced packed places.new.items }
     ensures ok { OnOk result (len ≤ length places.new.items) }
+    ensures ready { len ≤ length places.old.items → IsOk result }
     ensures longer { length places.old.items ≤ length places.new.items }
 {
     if places.len() < len {

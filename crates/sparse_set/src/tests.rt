@@ -30,21 +30,21 @@ fn push_in<G: Ledger>(rt: &impl Abort, alloc: Global, blank: Blank)
     let mut steps = Steps::<G>::new(blank);
     let mut set = SparseSet::new(alloc);
     is_shared(&set);
-    assert_eq!(rt; set.push(entity(4, 1), &mut steps), Ok(()));
+    assert_eq!(rt; set.push(entity(70_000, 1), &mut steps), Ok(()));
     assert_eq!(rt;
-        set.push(entity(4, 2), &mut steps),
+        set.push(entity(70_000, 2), &mut steps),
         Err(PushRefused::Present)
     );
-    assert_eq!(rt; set.contains(entity(4, 1)), true);
-    assert_eq!(rt; set.contains(entity(4, 2)), false);
-    assert_eq!(rt; set.index_of(entity(4, 1)), Some(0));
-    assert_eq!(rt; set.index_of(entity(4, 2)), None);
-    assert_eq!(rt; set.has_index(4), true);
-    assert_eq!(rt; set.reserve(2, 10), Ok(()));
+    assert_eq!(rt; set.contains(entity(70_000, 1)), true);
+    assert_eq!(rt; set.contains(entity(70_000, 2)), false);
+    assert_eq!(rt; set.index_of(entity(70_000, 1)), Some(0));
+    assert_eq!(rt; set.index_of(entity(70_000, 2)), None);
+    assert_eq!(rt; set.has_index(70_000), true);
+    assert_eq!(rt; set.reserve(9_000, 80_000), Ok(()));
     assert_eq!(rt; set.has_index(9), false);
     set.push_reserved(entity(9, 0), &mut steps);
-    assert_eq!(rt; set.spare(), 1);
-    assert_eq!(rt; set.packed(), [entity(4, 1), entity(9, 0)].as_slice());
+    assert_eq!(rt; set.spare(), 8_999);
+    assert_eq!(rt; set.packed(), [entity(70_000, 1), entity(9, 0)].as_slice());
 }
 
 #[test]

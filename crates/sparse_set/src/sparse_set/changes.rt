@@ -1,6 +1,6 @@
 //! The calls that change a set.
 
-ghost use Rattle.std.specs.Prelude.{◌≡◌, ◌+◌, ◌-◌, ◌<◌, ◌≤◌, ◌↔◌, [], ◌∷◌, ◌++◌, length, take, drop, max, Some, false, IsTrue, OnOk, OnErr, IfOk, is_ok, if◌then◌else◌};
+ghost use Rattle.std.specs.Prelude.{◌≡◌, ◌≢◌, ◌+◌, ◌-◌, ◌^◌, ◌<◌, ◌≤◌, ◌↔◌, [], ◌∷◌, ◌++◌, length, take, drop, max, Some, false, IsTrue, IsOk, OnOk, OnErr, IfOk, is_ok, if◌then◌else◌};
 ghost use Rattle.std.specs.List.{swap};
 ghost use Rattle.std.specs.List.Sorted.{IsPermutation};
 ghost use Rattle.std.specs.Result.{result_ok};
@@ -17,12 +17,14 @@ use std::sync::ledger::Ledger;
 
 impl SparseSet {
     /// Makes room for at least `n` reserved pushes of indices below `index_bound`, and for no fewer
-    /// than before. `OutOfMemory` also where the identifiers would be 2^32 or more. Takes memory.
-    /// (EnTT: `reserve`.)
+    /// than before. `OutOfMemory` also where the identifiers would be 2^32 or more, and never where
+    /// that room stands. Takes memory. (EnTT: `reserve`.)
     pub fn reserve(&mut self, n: u32, index_bound: u32) -> Result<(), OutOfMemory>
         ensures list { self.new.list ≡ self.old.list }
         ensures spare { OnOk result (self.new.spare ≡ max self.old.spare n) }
         ensures bound { OnOk result (self.new.index_bound ≡ max self.old.index_bound index_bound) }
+        ensures few { OnOk result (length self.new.list + self.new.spare < 2 ^ 32) }
+        ensures ready { n ≤ self.old.spare → index_bound ≤ self.old.index_bound → IsOk result }
         ensures err { OnErr result (self.new ≡ self.old) }
     {
         let spare = self.spare.max(n as usize);
@@ -35,8 +37,8 @@ impl SparseSet {
     }
 
     /// Appends an identifier: one step, and one reserved push less, if any is left. `Present`
-    /// exactly where an identifier of its index is contained, and `OutOfMemory`. Takes memory.
-    /// (EnTT: `emplace`.)
+    /// exactly where an identifier of its index is contained. `OutOfMemory`, but never where a push
+    /// is reserved and the index is below the bound. Takes memory. (EnTT: `emplace`.)
     pub fn push<G: Ledger>(
         &mut self,
         entity: Entity,
@@ -46,6 +48,8 @@ impl SparseSet {
         ensures present { result ≡ Err PushRefused.Present
             ↔ IsTrue (has_index self.old.list entity.index) }
         ensures absent { OnOk result (has_index self.old.list entity.index ≡ false) }
+        ensures reserved { 0 < self.old.spare → entity.index < self.old.index_bound
+            → result ≢ Err PushRefused.OutOfMemory }
         ensures err { OnErr result (self.new ≡ self.old) }
         ensures spare { OnOk result (self.new.spare ≡ self.old.spare - 1) }
         ensures distinct { AreDistinct self.new.list }
