@@ -1,6 +1,6 @@
 //! The calls that change a storage.
 
-ghost use Rattle.std.specs.Prelude.{◌≡◌, ◌+◌, ◌-◌, ◌<◌, ◌≤◌, ◌↔◌, [], ◌∷◌, ◌++◌, length, take, drop, max, Some, false, IsTrue, OnOk, OnErr, IfSome, is_ok, if◌then◌else◌};
+ghost use Rattle.std.specs.Prelude.{◌≡◌, ◌≢◌, ◌+◌, ◌-◌, ◌^◌, ◌<◌, ◌≤◌, ◌↔◌, [], ◌∷◌, ◌++◌, length, take, drop, max, Some, false, IsTrue, IsOk, OnOk, OnErr, IfSome, is_ok, if◌then◌else◌};
 ghost use Rattle.std.specs.List.{swap};
 ghost use Rattle.std.specs.List.Sorted.{IsPermutation};
 ghost use Rattle.std.specs.Result.{result_ok};
@@ -16,12 +16,14 @@ use std::sync::ledger::Ledger;
 
 impl<T: Copy> Storage<T> {
     /// Makes room for at least `n` reserved pairs of indices below `index_bound`, and for no fewer
-    /// than before. `OutOfMemory` also where the pairs would be 2^32 or more. Takes memory. (EnTT:
-    /// `reserve`.)
+    /// than before. `OutOfMemory` also where the pairs would be 2^32 or more, and never where that
+    /// room stands. Takes memory. (EnTT: `reserve`.)
     pub fn reserve(&mut self, n: u32, index_bound: u32) -> Result<(), OutOfMemory>
         ensures pairs { self.new.pairs ≡ self.old.pairs }
         ensures spare { OnOk result (self.new.spare ≡ max self.old.spare n) }
         ensures bound { OnOk result (self.new.index_bound ≡ max self.old.index_bound index_bound) }
+        ensures few { OnOk result (length self.new.pairs + self.new.spare < 2 ^ 32) }
+        ensures ready { n ≤ self.old.spare → index_bound ≤ self.old.index_bound → IsOk result }
         ensures err { OnErr result (self.new ≡ self.old) }
     {
         let spare = self.index.spare().max(n);
@@ -32,8 +34,8 @@ impl<T: Copy> Storage<T> {
     }
 
     /// Appends an identifier with its value: one step, and one reserved pair less, if any is left.
-    /// `Present` exactly where an identifier of its index has a value, and `OutOfMemory`. Takes
-    /// memory. (EnTT: `emplace`.)
+    /// `Present` exactly where an identifier of its index has a value. `OutOfMemory`, but never where
+    /// a pair is reserved and the index is below the bound. Takes memory. (EnTT: `emplace`.)
     pub fn emplace<G: Ledger>(
         &mut self,
         entity: Entity,
@@ -48,6 +50,8 @@ impl<T: Copy> Storage<T> {
         ensures present { result ≡ Err PushRefused.Present
             ↔ IsTrue (entries.has_index self.old.pairs entity.index) }
         ensures absent { OnOk result (entries.has_index self.old.pairs entity.index ≡ false) }
+        ensures reserved { 0 < self.old.spare → entity.index < self.old.index_bound
+            → result ≢ Err PushRefused.OutOfMemory }
         ensures err { OnErr result (self.new ≡ self.old) }
         ensures spare { OnOk result (self.new.spare ≡ self.old.spare - 1) }
         ensures bound { self.new.index_bound ≡ self.old.index_bound }
