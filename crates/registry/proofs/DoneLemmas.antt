@@ -75,33 +75,27 @@ did old new command h ok passes change =
 -- nothing changed
 pub same : (held : Held) → AsBefore held held
 same held = record {
-  limit = refl;
-  world = refl;
-  construct = hear_nothing event.Construct [] held.construct (λ n. refl);
-  update = hear_nothing event.Update [] held.update (λ n. refl);
-  destroy = hear_nothing event.Destroy [] held.destroy (λ n. refl);
+  unchanged = record {
+    limit = refl;
+    world = refl;
+    construct = hear_nothing event.Construct [] held.construct (λ n. refl);
+    update = hear_nothing event.Update [] held.update (λ n. refl);
+    destroy = hear_nothing event.Destroy [] held.destroy (λ n. refl);
+  };
+  packed = refl;
 }
 
 -- a refused command leaves all as it was, and is answered its cause
 pub refused : (held : Held) (command : Command) (cause : Refusal) → refusal_to held command ≡ Some cause → Does held held command × (reply_to held command ≡ Refused cause)
 refused held command cause h =
     let is : step held.limit held.world command ≡ answers held.world (Refused cause) = ap (λ r. unless_refused held.world r (outcome_of held.limit held.world command)) h in (
-      subst (λ (o : Outcome). Becomes held held o.world o.events) (sym is) (same held),
+      subst (λ (o : Outcome). Becomes held held o.world o.events) (sym is) (same held).unchanged,
       ap (λ (o : Outcome). o.reply) is,
     )
 
 -- where the world stays, so does what is kept
 pub stayed : {L : Type 0} (old new : Parts L) → IsKept old → Stays old new → IsKept new × AsBefore (held_of old) (held_of new)
-stayed old new h change = (kept_after old new (world_of old) [] h h.lawful refl refl change, change.becomes)
-
--- a refused command leaves the world, whatever room was made
-pub declined : {L : Type 0} (old new : Parts L) (command : Command) (cause : Refusal) → IsKept old → refusal_to (held_of old) command ≡ Some cause → Stays old new
-    → IsKept new × Does (held_of old) (held_of new) command
-declined old new command cause h is stays =
-    let step_is : step old.slots.limit (world_of old) command ≡ answers (world_of old) (Refused cause) = ap (λ r. unless_refused (world_of old) r (outcome_of old.slots.limit (world_of old) command)) is in (
-      (stayed old new h stays).0,
-      subst (λ (o : Outcome). Becomes (held_of old) (held_of new) o.world o.events) (sym step_is) stays.becomes,
-    )
+stayed old new h change = (kept_after old new (world_of old) [] h h.lawful refl refl change.unchanged, record { unchanged = change.unchanged.becomes; packed = change.packed })
 
 -- ---- either
 
@@ -140,9 +134,9 @@ slots_changed old slots list free h to = record {
   becomes = record {
     limit = to.limit;
     world = λ i. record { profile = to.profile i; decls = old.decls; groups = []; tick = 0; slots = to.slots i; free = to.free i; pools = maps_of old.pools.items };
-    construct = (same (held_of old)).construct;
-    update = (same (held_of old)).update;
-    destroy = (same (held_of old)).destroy;
+    construct = (same (held_of old)).unchanged.construct;
+    update = (same (held_of old)).unchanged.update;
+    destroy = (same (held_of old)).unchanged.destroy;
   };
   profile = refl;
   construct_each = refl;
@@ -150,6 +144,10 @@ slots_changed old slots list free h to = record {
   destroy_each = refl;
   room = h.room;
 }
+
+-- where the lists are those of before, all is as before but for spare
+pub slots_stayed : {L : Type 0} (old : Parts L) (slots : SlotLists) → IsKept old → slot_lists.Becomes old.slots slots old.slots.slots old.slots.free → Stays old (with_slots old slots)
+slots_stayed old slots h to = record { unchanged = slots_changed old slots old.slots.slots old.slots.free h to; packed = refl }
 
 -- ---- a row removed, or none there
 
@@ -160,4 +158,4 @@ removed old new e pool held gone =
 
 pub not_removed : {L : Type 0} (old new : Parts L) (e : Entity) (pool : ℕ) → has_row (world_of old) pool e ≡ false → Stays old new → Gives old new (outcome_of old.slots.limit (world_of old) (Remove e pool))
 not_removed old new e pool none stays =
-    subst (λ b. Gives old new (cond b (drops (world_of old) e pool (Number 1)) (answers (world_of old) (Number 0)))) (sym none) stays
+    subst (λ b. Gives old new (cond b (drops (world_of old) e pool (Number 1)) (answers (world_of old) (Number 0)))) (sym none) stays.unchanged

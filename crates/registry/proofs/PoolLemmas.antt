@@ -23,6 +23,7 @@ use Rattle.registry.specs.Layout.{maps_of, world_of, HaveRoom, IsKept, IsChanged
 use Rattle.registry.specs.Leaving.{hearings_after}
 use Rattle.registry.proofs.HeardLemmas.{hear_nothing, hear_set, hear_told, hear_quiet}
 use Rattle.registry.proofs.LeavingLemmas.{room_set, same_room}
+use Rattle.registry.proofs.PackingLemmas.{packed_stays}
 
 -- what stands at a place below the length
 pub read_at : {X : Type 0} (xs : List X) (n i : ℕ) (x : X) → length xs ≡ n → i < n → x ≡ get_or xs i x → slice_get xs i ≡ Some x
@@ -64,13 +65,15 @@ module _ {L : Type 0} (old : Parts L) (pool : ℕ) (p p' : Stored Row) (hp : sli
     }
 
     -- the rows that it had
-    pub rows_stay : entries.map_of p'.pairs ≡ entries.map_of p.pairs
+    pub rows_stay : entries.map_of p'.pairs ≡ entries.map_of p.pairs → entries.keys p'.pairs ≡ entries.keys p.pairs
         → Hear event.Construct [] old.construct.items construct.items → Hear event.Update [] old.update.items update.items → Hear event.Destroy [] old.destroy.items destroy.items
         → length construct.items ≡ length old.construct.items → length update.items ≡ length old.update.items → length destroy.items ≡ length old.destroy.items
         → HaveRoom (set old.pools.items pool p') destroy.items → Stays old (with_one construct update destroy)
-    rows_stay is on_construct on_update on_destroy construct_each update_each destroy_each room =
-        subst (λ world. IsChanged old (with_one construct update destroy) world []) unchanged
-        (rows_changed (entries.map_of p.pairs) [] is on_construct on_update on_destroy construct_each update_each destroy_each room)
+    rows_stay is keys_are on_construct on_update on_destroy construct_each update_each destroy_each room = record {
+      unchanged = subst (λ world. IsChanged old (with_one construct update destroy) world []) unchanged
+          (rows_changed (entries.map_of p.pairs) [] is on_construct on_update on_destroy construct_each update_each destroy_each room);
+      packed = packed_stays old.pools.items pool p p' hp keys_are;
+    }
 
   module _ (e : Entity) (row : Row) (s s' d d' : List (Option Hearing)) (hs : slice_get old.construct.items pool ≡ Some s) (hd : slice_get old.destroy.items pool ≡ Some d) (h : IsKept old)
       (quiet : heard_lists d' ≡ heard_lists d) (room : HaveSpare (length p'.pairs) d') where
@@ -85,7 +88,7 @@ module _ {L : Type 0} (old : Parts L) (pool : ℕ) (p p' : Stored Row) (hp : sli
     -- none was
     pub not_entered : p' ≡ p → heard_lists s' ≡ heard_lists s → Stays old (with_one (with_item old.construct pool s') old.update (with_item old.destroy pool d'))
     not_entered is heard =
-        rows_stay (with_item old.construct pool s') old.update (with_item old.destroy pool d') (ap (λ (v : Stored Row). entries.map_of v.pairs) is)
+        rows_stay (with_item old.construct pool s') old.update (with_item old.destroy pool d') (ap (λ (v : Stored Row). entries.map_of v.pairs) is) (ap (λ (v : Stored Row). entries.keys v.pairs) is)
         (hear_quiet event.Construct [] old.construct.items pool s s' hs heard (λ n. refl)) (hear_nothing event.Update [] old.update.items (λ n. refl)) (hear_quiet event.Destroy [] old.destroy.items pool d d' hd quiet (λ n. refl))
         (length-set old.construct.items pool s') refl (length-set old.destroy.items pool d') (room_set old.pools.items old.destroy.items pool p p' d d' hp hd h.room room)
 
@@ -104,7 +107,7 @@ module _ {L : Type 0} (old : Parts L) (pool : ℕ) (p p' : Stored Row) (hp : sli
     -- none was
     pub not_set : p' ≡ p → heard_lists s' ≡ heard_lists s → Stays old (with_one old.construct (with_item old.update pool s') old.destroy)
     not_set is heard =
-        rows_stay old.construct (with_item old.update pool s') old.destroy (ap (λ (v : Stored Row). entries.map_of v.pairs) is)
+        rows_stay old.construct (with_item old.update pool s') old.destroy (ap (λ (v : Stored Row). entries.map_of v.pairs) is) (ap (λ (v : Stored Row). entries.keys v.pairs) is)
         (hear_nothing event.Construct [] old.construct.items (λ n. refl)) (hear_quiet event.Update [] old.update.items pool s s' hs heard (λ n. refl)) (hear_nothing event.Destroy [] old.destroy.items (λ n. refl))
         refl (length-set old.update.items pool s') refl room_left
 
@@ -124,10 +127,10 @@ module _ {L : Type 0} (old : Parts L) (pool : ℕ) (p p' : Stored Row) (hp : sli
         refl refl (length-set old.destroy.items pool s') (room_set old.pools.items old.destroy.items pool p p' s s' hp hs h.room room)
 
     -- none did
-    pub not_left : entries.contains (entries.map_of p.pairs) e ≡ false → Stays old after
-    not_left none =
+    pub not_left : entries.contains (entries.map_of p.pairs) e ≡ false → entries.keys p'.pairs ≡ entries.keys p.pairs → Stays old after
+    not_left none keys_are =
         let same : s' ≡ s = hearings ∙ ap (λ b. cond b (all_told (tells event.Destroy pool e) s) s) none in
-        rows_stay old.construct old.update (with_item old.destroy pool s') (is ∙ remove-absent (entries.map_of p.pairs) e (none_is (entries.get (entries.map_of p.pairs) e) none))
+        rows_stay old.construct old.update (with_item old.destroy pool s') (is ∙ remove-absent (entries.map_of p.pairs) e (none_is (entries.get (entries.map_of p.pairs) e) none)) keys_are
         (hear_nothing event.Construct [] old.construct.items (λ n. refl)) (hear_nothing event.Update [] old.update.items (λ n. refl))
         (hear_quiet event.Destroy [] old.destroy.items pool s s' hs (ap heard_lists same) (λ n. refl))
         refl refl (length-set old.destroy.items pool s') (room_set old.pools.items old.destroy.items pool p p' s s' hp hs h.room room)

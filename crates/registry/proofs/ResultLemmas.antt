@@ -43,3 +43,18 @@ ok_by_not_err (Err x) h = sym h
 pub all_err : {A E P : Type 0} (r : Result A E) → P → OnErr r P
 all_err (Ok x) h = tt
 all_err (Err x) h = h
+
+-- what follows from a fact on success
+pub then_ok : {A E P Q : Type 0} (r : Result A E) → OnOk r P → (P → Q) → OnOk r Q
+then_ok (Ok x) p h = h p
+then_ok (Err x) p h = tt
+
+-- and from one on a refusal
+pub then_err : {A E P Q : Type 0} (r : Result A E) → OnErr r P → (P → Q) → OnErr r Q
+then_err (Ok x) p h = tt
+then_err (Err x) p h = h p
+
+-- what holds where a test didn't, where it didn't
+pub by_false : {P : Type 0} (b : Bool) → b ≡ false → OnFalse b P → P
+by_false true h p = cc
+by_false false h p = p

@@ -1,6 +1,7 @@
 -- What a contract sees of a registry, and what its calls do to it.
 use Rattle.std.specs.Prelude.{◌≡◌, ℕ, ◌++◌, List, [], map, replicate, length, Option, slice_get}
 use Rattle.std.specs.Option.{option_map}
+use Rattle.entity_id.specs.declared.entity.Entity.{Entity}
 use Rattle.signal_sink.specs.Hearings.{Hearing, heard_lists}
 use Rattle.world_model.specs.declared.command.Command.{Command}
 use Rattle.world_model.specs.declared.command.Reply.{Reply}
@@ -9,15 +10,18 @@ use Rattle.world_model.specs.declared.event.EventKind.{EventKind}
 use Rattle.world_model.specs.declared.event.EventKind.TheVariants as event
 use Rattle.world_model.specs.declared.refusal.Refusal.{Refusal}
 use Rattle.world_model.specs.declared.world.World.{World}
+use Rattle.world_model.specs.Contents.{keys_of}
 use Rattle.world_model.specs.Refusing.{refusal_of}
 use Rattle.world_model.specs.Steps.{step, heard_by}
 
--- a world at tick 0 with at most so many slots, and for each kind of event the listeners of each pool
+-- a world at tick 0 with at most so many slots, the packed list of each pool, and for each kind of event the listeners of each pool
 pub record Held : Type 0 where
   -- the most slots
   pub limit : ℕ
   -- the world that the registry stands for
   pub world : World
+  -- the packed list of each pool: the identifiers that have a row in it, in the order in which the pool keeps them
+  pub packed : List (List Entity)
   -- the listeners of each pool that hear of rows added
   pub construct : List (List (Option Hearing))
   -- those that hear of rows replaced and fields set
@@ -47,14 +51,16 @@ abbrev pub Does : Held → Held → Command → Type 0
 Does old new command = let outcome = step old.limit old.world command in Becomes old new outcome.world outcome.events
 
 -- all is as before, but for spare
-abbrev pub AsBefore : Held → Held → Type 0
-AsBefore old new = Becomes old new old.world []
+pub record AsBefore (old new : Held) : Type 0 where
+  pub unchanged : Becomes old new old.world []
+  pub packed : new.packed ≡ old.packed
 
--- a registry of this world that nobody listens to
+-- a registry of this world that nobody listens to, with each pool packed in ascending index
 abbrev pub unheard : ℕ → World → Held
 unheard limit world = record {
   limit = limit;
   world = world;
+  packed = keys_of world;
   construct = replicate (length world.decls) [];
   update = replicate (length world.decls) [];
   destroy = replicate (length world.decls) [];

@@ -19,6 +19,14 @@ use Rattle.registry.specs.Held.{Held, Becomes}
 abbrev pub maps_of : List (Stored Row) → List (List (Entity × Row))
 maps_of pools = map (λ stored. entries.map_of stored.pairs) pools
 
+-- the packed list of each pool
+abbrev pub packed_of : List (Stored Row) → List (List Entity)
+packed_of pools = map (λ stored. entries.keys stored.pairs) pools
+
+-- the entries of each pool, in packed order
+abbrev pub pairs_of : List (Stored Row) → List (List (Entity × Row))
+pairs_of pools = map (λ stored. stored.pairs) pools
+
 -- the world that the parts stand for
 abbrev pub world_of : {L : Type 0} → Parts L → World
 world_of parts = record {
@@ -36,6 +44,7 @@ abbrev pub held_of : {L : Type 0} → Parts L → Held
 held_of parts = record {
   limit = parts.slots.limit;
   world = world_of parts;
+  packed = packed_of parts.pools.items;
   construct = parts.construct.items;
   update = parts.update.items;
   destroy = parts.destroy.items;
@@ -68,9 +77,10 @@ pub record IsChanged {L : Type 0} (old new : Parts L) (world : World) (events : 
 abbrev pub Gives : {L : Type 0} → Parts L → Parts L → Outcome → Type 0
 Gives old new outcome = IsChanged old new outcome.world outcome.events
 
--- the parts stand for the world of before, and the listeners have heard nothing
-abbrev pub Stays : {L : Type 0} → Parts L → Parts L → Type 0
-Stays old new = IsChanged old new (world_of old) []
+-- the parts stand for the world of before, packed as before, and the listeners have heard nothing
+pub record Stays {L : Type 0} (old new : Parts L) : Type 0 where
+  pub unchanged : IsChanged old new (world_of old) []
+  pub packed : packed_of new.pools.items ≡ packed_of old.pools.items
 
 -- the parts are these, and nobody listens
 pub record AreMadeOf {L : Type 0} (parts : Parts L) (limits : Profile) (components : List Decl) (entities : SlotLists) (stored : List (Stored Row)) : Type 0 where

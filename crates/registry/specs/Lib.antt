@@ -1,6 +1,9 @@
 pub mod Clearing
+pub mod Costs
 pub mod Held
+pub mod Laws
 pub mod Layout
 pub mod Leaving
 pub mod Listeners
+pub mod Packing
 pub mod Running

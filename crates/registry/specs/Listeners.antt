@@ -19,5 +19,6 @@ listeners_at held kind pool = slice_index_or (listeners_of held kind) pool []
 pub record IsRewired (old new : Held) (kind : EventKind) (pool : ℕ) : Type 0 where
   pub limit : new.limit ≡ old.limit
   pub world : new.world ≡ old.world
+  pub packed : new.packed ≡ old.packed
   pub other_pools : (other : ℕ) → other ≢ pool → listeners_at new kind other ≡ listeners_at old kind other
   pub other_kinds : (other : EventKind) → other ≢ kind → listeners_of new other ≡ listeners_of old other

@@ -1,12 +1,18 @@
 -- Commands carried out, with their replies.
-use Rattle.std.specs.Prelude.{◌≡◌, ◌⊎◌, Bool, true, false, IsTrue, Result, Ok, Err}
+use Rattle.std.specs.Prelude.{◌≡◌, ◌⊎◌, ℕ, ◌<◌, Bool, true, false, not, nat_lt, if◌then◌else◌, List, [], ◌∷◌, length, IsTrue, None, Result, Ok, Err}
+use Rattle.entity_id.specs.declared.entity.Entity.{Entity}
 use Rattle.world_model.specs.declared.command.Command.{Command}
 use Rattle.world_model.specs.declared.command.Command.TheVariants.{Create, Hint, Emplace, EmplaceOrReplace, Replace, Patch, Valid, Get, AllOf, AnyOf, Orphan, Alive, Size, View, Group, Members, SortPool, SortGroup}
 use Rattle.world_model.specs.declared.command.Reply.{Reply}
 use Rattle.world_model.specs.declared.command.Reply.TheVariants.{Refused}
 use Rattle.world_model.specs.declared.refusal.Refusal.{Refusal}
 use Rattle.world_model.specs.declared.refusal.Refusal.TheVariants.{OutOfMemory}
-use Rattle.registry.specs.Held.{Held, Does, AsBefore, reply_to}
+use Rattle.world_model.specs.declared.world.World.{World}
+use Rattle.world_model.specs.Components.{fits_kind, has_field}
+use Rattle.world_model.specs.Conditions.{fits_pool}
+use Rattle.world_model.specs.Slots.{is_plain_hint}
+use Rattle.registry.specs.Held.{Held, Does, AsBefore, reply_to, refusal_to}
+use Rattle.registry.specs.Packing.{RepacksUnless}
 
 -- whether the registry carries out such a command: groups and sorts are not among them yet
 abbrev pub is_served : Command → Bool
@@ -15,6 +21,16 @@ is_served (Members group) = false
 is_served (SortPool pool field) = false
 is_served (SortGroup group pool field) = false
 is_served _ = true
+
+-- what the call asks that a command stands for: a row that fits its component, a field that may hold the value, where the
+-- component is declared; one component or more that a view's identifiers are in
+abbrev pub Asks : World → Command → Type 0
+Asks w (Emplace entity pool row) = IsTrue (fits_pool w.profile w.decls pool row)
+Asks w (EmplaceOrReplace entity pool row) = IsTrue (fits_pool w.profile w.decls pool row)
+Asks w (Replace entity pool row) = IsTrue (fits_pool w.profile w.decls pool row)
+Asks w (Patch entity pool field value) = pool < length w.decls → IsTrue (has_field (λ kind. fits_kind w.profile kind value) w.decls pool field)
+Asks w (View all without) = 0 < length all
+Asks w _ = Unit {0}
 
 -- whether the command changes nothing, and is served
 abbrev pub is_question : Command → Bool
@@ -28,22 +44,36 @@ is_question Size = true
 is_question (View all without) = true
 is_question _ = false
 
--- whether the call of a command may want memory
-abbrev pub may_want_memory : Command → Bool
-may_want_memory Create = true
-may_want_memory (Hint entity) = true
-may_want_memory (Emplace entity pool row) = true
-may_want_memory (EmplaceOrReplace entity pool row) = true
-may_want_memory (Replace entity pool row) = true
-may_want_memory (Patch entity pool field value) = true
-may_want_memory (View all without) = true
-may_want_memory _ = false
+-- whether a list has nothing in it
+abbrev pub is_empty : List ℕ → Bool
+is_empty [] = true
+is_empty (x ∷ xs) = false
+
+-- whether a creation by a hint needs a new slot: it is plain and no index is free, or the hint's index is past the end
+abbrev pub hint_needs_slot : Held → Entity → Bool
+hint_needs_slot held hint =
+    if is_plain_hint held.world.profile held.limit held.world.slots hint then is_empty held.world.free
+    else not (nat_lt hint.index (length held.world.slots))
+
+-- whether the call of a command may want memory: a creation does only where it needs a new slot
+abbrev pub may_want_memory : Held → Command → Bool
+may_want_memory held Create = is_empty held.world.free
+may_want_memory held (Hint hint) = hint_needs_slot held hint
+may_want_memory held (Emplace entity pool row) = true
+may_want_memory held (EmplaceOrReplace entity pool row) = true
+may_want_memory held (Replace entity pool row) = true
+may_want_memory held (Patch entity pool field value) = true
+may_want_memory held (View all without) = true
+may_want_memory held _ = false
 
 -- what a call's answer is as a reply
 abbrev pub reply_by : {A : Type 0} → (A → Reply) → Result A Refusal → Reply
 reply_by reply (Ok answer) = reply answer
 reply_by reply (Err refused) = Refused refused
 
--- the command did its step and was answered so; or memory ran out, where its call may want it, and all is as before but for spare
+-- the command did its step and was answered so; or it isn't refused, but memory ran out, where its call may want it, and all is as
+-- before but for spare
 abbrev pub IsRun : Held → Held → Command → Reply → Type 0
-IsRun old new command reply = (Does old new command × (reply ≡ reply_to old command)) ⊎ (IsTrue (may_want_memory command) × (reply ≡ Refused OutOfMemory) × AsBefore old new)
+IsRun old new command reply =
+    (Does old new command × RepacksUnless (refusal_to old command) old new command × (reply ≡ reply_to old command))
+    ⊎ (IsTrue (may_want_memory old command) × (refusal_to old command ≡ None) × (reply ≡ Refused OutOfMemory) × AsBefore old new)

@@ -5,6 +5,7 @@ pub mod commands;
 pub mod components;
 mod copying;
 pub mod creation;
+pub mod lawful;
 pub mod leaving;
 pub mod listening;
 pub mod loading;
@@ -15,6 +16,7 @@ mod refusing;
 mod rows;
 pub mod saving;
 pub mod viewing;
+pub mod width;
 
 use entity_id::Profile;
 use entity_slots::EntitySlots;

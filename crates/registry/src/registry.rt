@@ -1,6 +1,7 @@
 //! The registry.
 
 mod components;
+mod laws;
 mod lifecycle;
 mod listeners;
 mod queries;

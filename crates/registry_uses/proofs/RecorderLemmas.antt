@@ -1,5 +1,5 @@
 -- What a recorder hears between its connection and its disconnection.
-use Rattle.std.proofs.Common.{◌≡◌, ℕ, ◌<◌, true, false, cond, List, [], ◌∷◌, ◌++◌, map, length, Option, Some, None, refl, sym, ap, ◌∙◌, arith, get_or, slice_get, set, ◌+◌, length-append, length-set}
+use Rattle.std.proofs.Common.{◌≡◌, ℕ, ◌<◌, true, false, cond, List, [], ◌∷◌, ◌++◌, map, length, Option, Some, None, refl, sym, subst, ap, ◌∙◌, arith, get_or, slice_get, set, ◌+◌, length-append, length-set}
 use Rattle.std.specs.Option.{option_map, option_map_or}
 use Rattle.std.proofs.lemmas.List.{length-map}
 use Rattle.std.proofs.lemmas.Option.{none-some, same_Some, slice_get-map}
@@ -12,6 +12,7 @@ use Rattle.world_model.specs.declared.world.World.{World}
 use Rattle.world_model.specs.Contents.{has_row}
 use Rattle.world_model.specs.Outcomes.{Outcome, tells}
 use Rattle.world_model.specs.Steps.{step, heard_by}
+use Rattle.world_model.specs.Worlds.{IsLawful}
 use Rattle.world_model.proofs.SlotLemmas.{slice_get-push}
 use Rattle.registry.specs.Held.{Held, Does, heard_after, refusal_to}
 use Rattle.registry.specs.Listeners.{listeners_at}
@@ -45,13 +46,13 @@ last_heard old mid after kind_events number recorder is connected heard there =
     same_Some recorder.heard kind_events (same_Some (Some recorder.heard) (Some kind_events) (sym heard_there ∙ last_list old mid after kind_events number is connected heard))
 
 -- a recorder that was connected for a destruction has heard of the entity's place, where it had one
-pub heard_of_place : (old mid after : Held) (e : Entity) (number : ℕ) (recorder : Hearing) → IsScene mid → mid.world ≡ old.world → number ≡ length (listeners_at old event.Destroy POSITION)
+pub heard_of_place : (old mid after : Held) (e : Entity) (number : ℕ) (recorder : Hearing) → IsScene old → IsLawful old.limit old.world → mid.world ≡ old.world → number ≡ length (listeners_at old event.Destroy POSITION)
     → heard_lists (listeners_at mid event.Destroy POSITION) ≡ heard_lists (listeners_at old event.Destroy POSITION) ++ Some [] ∷ []
     → Does mid after (Destroy e) → refusal_to mid (Destroy e) ≡ None → slice_get (listeners_at after event.Destroy POSITION) number ≡ Some (Some recorder)
     → recorder.heard ≡ cond (has_row old.world POSITION e) (tells event.Destroy POSITION e ∷ []) []
-heard_of_place old mid after e number recorder h world is connected does passes there =
+heard_of_place old mid after e number recorder h lawful world is connected does passes there =
     let events : List Event = (step mid.limit mid.world (Destroy e)).events in
-    let within : POSITION < length mid.world.pools = pools_of mid.limit mid.world POSITION h.lawful (let few = ap length h.decls in omega (arith, few)) in
+    let within : POSITION < length mid.world.pools = subst (λ (w : World). POSITION < length w.pools) (sym world) (pools_of old.limit old.world POSITION lawful (let few = ap length h.decls in omega (arith, few))) in
     last_heard (listeners_at old event.Destroy POSITION) (listeners_at mid event.Destroy POSITION) (listeners_at after event.Destroy POSITION) (heard_by event.Destroy POSITION events) number recorder is connected
     (at_first heard_lists (λ hearings. heard_after event.Destroy POSITION events (heard_lists hearings)) mid.destroy after.destroy [] refl (does.destroy POSITION)) there
     ∙ ap (λ (o : Outcome). heard_by event.Destroy POSITION o.events) (accepted mid.limit mid.world (Destroy e) passes)

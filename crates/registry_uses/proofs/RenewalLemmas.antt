@@ -1,5 +1,5 @@
 -- Identifiers made, destroyed, and made anew.
-use Rattle.std.proofs.Common.{◌≡◌, ◌≢◌, ℕ, ◌+◌, ◌<◌, true, false, ◌&&◌, not, cond, List, [], ◌∷◌, ◌++◌, length, map, count_by, eqb, Option, Some, None, zero, suc, refl, sym, ap, ap₂, ◌∙◌, arith, set, slice_get, is_some, inl, inr}
+use Rattle.std.proofs.Common.{◌≡◌, ◌≢◌, ℕ, ◌+◌, ◌<◌, true, false, ◌&&◌, not, cond, List, [], ◌∷◌, ◌++◌, length, map, count_by, eqb, Option, Some, None, zero, suc, refl, sym, ap, ap₂, ◌∙◌, arith, set, slice_get, is_some, inl, inr, Result, OnErr}
 use Rattle.std.proofs.lemmas.Bool.{cases_Bool, cases_eq, both_ways, eq-eqb, ne_eqb}
 use Rattle.std.proofs.lemmas.Bool.Decides.{nat_tests}
 use Rattle.std.proofs.lemmas.Option.{slice_get_past}
@@ -32,8 +32,10 @@ use Rattle.world_model.specs.Worlds.{AreLawfulRows, IsLawful}
 use Rattle.world_model.proofs.ReplyLemmas.{live_rows, made_is_known}
 use Rattle.world_model.proofs.SlotLemmas.{bit, count_cons, not_both, live_within, slot_of_live}
 use Rattle.world_model.proofs.StepLemmas.{step_cases}
+use Rattle.registry.specs.Held.{Held}
 use Rattle.registry.proofs.DoneLemmas.{accepted}
-use Rattle.registry_uses.proofs.SceneLemmas.{entry_passes}
+use Rattle.registry.proofs.ResultLemmas.{then_err}
+use Rattle.registry_uses.proofs.SceneLemmas.{entry_passes, WasDone}
 use Rattle.registry_uses.proofs.MovingLemmas.{known_key}
 
 -- ---- made
@@ -142,6 +144,13 @@ still_dead w e profile live =
     ap (λ (o : Option Slot). option_map_or (λ slot. slot.live && eqb slot.version e.version) o false) (slice_get-set_same slots e.index _ now)
     ∙ ap (λ (version : ℕ). eqb version e.version) (version_of_renewed w e live)
     ∙ ne_eqb (next_version w.profile e.version) e.version (other_version w.profile e.version profile)
+
+-- once an identifier was destroyed its index is there to be made anew
+pub never_refused : {A E : Type 0} (old mid : Held) (e : Entity) (r : Result A E) → WasDone old mid (Destroy e) → OnErr r (mid.world.free ≡ []) → OnErr r ⊥
+never_refused old mid e r done none = then_err r none (λ is. not_empty mid.world.free e.index old.world.free (ap (λ (w : World). w.free) done.world) is)
+  where
+    not_empty : (list : List ℕ) (x : ℕ) (xs : List ℕ) → list ≡ x ∷ xs → list ≡ [] → ⊥
+    not_empty list x xs is none = cc
 
 -- ---- an identifier that was made and wasn't used
 

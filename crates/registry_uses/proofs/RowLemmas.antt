@@ -1,5 +1,5 @@
 -- Rows that are set, removed and told.
-use Rattle.std.proofs.Common.{◌≡◌, ℕ, ◌<◌, ℤ, pos, true, false, cond, is_some, List, [], ◌∷◌, length, Option, Some, None, refl, ap, ap₂, ◌∙◌, arith}
+use Rattle.std.proofs.Common.{◌≡◌, ℕ, ◌<◌, ℤ, true, false, cond, is_some, List, [], ◌∷◌, length, Option, Some, None, refl, ap, ap₂, ◌∙◌, arith}
 use Rattle.std.proofs.lemmas.List.{get_or-set_same}
 use Rattle.std.proofs.Common.{SFits, w64, to_z, of_z}
 use Rattle.std.proofs.lemmas.Int.{to_z-of_z}
@@ -8,15 +8,11 @@ use Rattle.entity_id.specs.FiniteMap as rows
 use Rattle.entity_id.proofs.MapLemmas.{get-put_same, get-remove_same}
 use Rattle.world_model.specs.declared.command.Command.TheVariants.{Get, Remove}
 use Rattle.world_model.specs.declared.command.Reply.TheVariants.{Number, Values}
-use Rattle.world_model.specs.declared.component.Decl.{Decl}
 use Rattle.world_model.specs.declared.component.Row.{Row}
 use Rattle.world_model.specs.declared.refusal.Refusal.{Refusal}
 use Rattle.world_model.specs.declared.world.World.{World}
-use Rattle.world_model.specs.Components.{fits_kind, has_field, IsRow}
-use Rattle.world_model.specs.Conditions.{fits_pool, MaySet, MaySetField}
 use Rattle.world_model.specs.Contents.{has_row, pool_at, with_pool}
 use Rattle.world_model.specs.Groups.{are_declared}
-use Rattle.world_model.specs.Integers.{IsI64}
 use Rattle.world_model.specs.Outcomes.{answers, drops, outcome_of}
 use Rattle.world_model.specs.Refusing.{when_no_entry}
 use Rattle.world_model.specs.Slots.{is_live}
@@ -25,8 +21,7 @@ use Rattle.world_model.proofs.AcceptedLemmas.{entry_declared, entry_live}
 use Rattle.world_model.proofs.StepLemmas.{remove_cases}
 use Rattle.registry.specs.Held.{Held, reply_to}
 use Rattle.registry.proofs.DoneLemmas.{length_all_zip}
-use Rattle.registry_uses.specs.declared.beginning.TheConstants.{FROZEN, POSITION, VELOCITY}
-use Rattle.registry_uses.specs.Scenes.{pair, IsScene}
+use Rattle.registry_uses.specs.Scenes.{pair}
 use Rattle.registry_uses.proofs.SceneLemmas.{row_is_told}
 
 -- ---- rows set
@@ -71,20 +66,7 @@ removed_is_gone limit w pool e lawful passes =
 pub remove_groups : (limit : ℕ) (w : World) (e : Entity) (pool : ℕ) → (outcome_of limit w (Remove e pool)).world.groups ≡ w.groups
 remove_groups limit w e pool = remove_cases (λ o. o.world.groups ≡ w.groups) w e pool refl refl
 
--- ---- what may be set in a scene
-
--- a pair may be set as a place, as a velocity and as a mark that is zero
-pub may_set_place : (held : Held) (x y : ℤ) → IsScene held → IsRow (pair x y) → MaySet held.world.profile held.world.decls POSITION (pair x y)
-may_set_place held x y h wide = record { wide = wide; fit = ap (λ (l : List Decl). fits_pool held.world.profile l POSITION (pair x y)) h.decls }
-
-pub may_set_velocity : (held : Held) (x y : ℤ) → IsScene held → IsRow (pair x y) → MaySet held.world.profile held.world.decls VELOCITY (pair x y)
-may_set_velocity held x y h wide = record { wide = wide; fit = ap (λ (l : List Decl). fits_pool held.world.profile l VELOCITY (pair x y)) h.decls }
-
-pub may_set_mark : (held : Held) → IsScene held → IsRow (pair (pos 0) (pos 0)) → MaySet held.world.profile held.world.decls FROZEN (pair (pos 0) (pos 0))
-may_set_mark held h wide = record { wide = wide; fit = ap (λ (l : List Decl). fits_pool held.world.profile l FROZEN (pair (pos 0) (pos 0))) h.decls }
-
-pub may_lift : (held : Held) (value : ℤ) → IsScene held → IsI64 value → MaySetField held.world.profile held.world.decls POSITION 1 value
-may_lift held value h wide = record { wide = wide; fit = λ _. ap (λ (l : List Decl). has_field (λ kind. fits_kind held.world.profile kind value) l POSITION 1) h.decls }
+-- ---- numbers
 
 -- a number as a call is passed it
 pub given : (x : ℤ) → SFits w64 x → to_z w64 (of_z w64 x) ≡ x

@@ -1,11 +1,9 @@
 -- What commands leave of a scene, and what it answers after them.
-use Rattle.std.proofs.Common.{◌≡◌, ℕ, true, false, List, [], ◌∷◌, length, Option, Some, None, Ok, Err, OnOk, OnErr, IfOk, IfErr, refl, sym, ap, ◌∙◌, subst, arith, lit≤, rules}
+use Rattle.std.proofs.Common.{◌≡◌, ℕ, true, false, List, [], ◌∷◌, length, Option, Some, None, Ok, Err, OnOk, OnErr, IfOk, IfErr, is_ok, refl, sym, ap, ◌∙◌, subst, arith, rules}
 use Rattle.std.proofs.lemmas.Bool.{both_ways}
-use Rattle.std.specs.List.{AllByRecursion}
 use Rattle.std.specs.Prelude.{Result}
 use Rattle.entity_id.specs.declared.entity.Entity.{Entity}
 use Rattle.entity_id.specs.FiniteMap as rows
-use Rattle.entity_id.specs.Identifiers.{p20_12}
 use Rattle.world_model.specs.declared.command.Command.{Command}
 use Rattle.world_model.specs.declared.command.Command.TheVariants.{Destroy, Get}
 use Rattle.world_model.specs.declared.command.Reply.{Reply}
@@ -15,7 +13,7 @@ use Rattle.world_model.specs.declared.component.Row.{Row}
 use Rattle.world_model.specs.declared.refusal.Refusal.{Refusal}
 use Rattle.world_model.specs.declared.refusal.Refusal.TheVariants as refusal
 use Rattle.world_model.specs.declared.world.World.{World}
-use Rattle.world_model.specs.Components.{zero_row, IsDecl}
+use Rattle.world_model.specs.Components.{zero_row}
 use Rattle.world_model.specs.Conditions.{IsAllowed}
 use Rattle.world_model.specs.Contents.{pool_at, row_at}
 use Rattle.world_model.specs.Groups.{are_declared}
@@ -24,9 +22,8 @@ use Rattle.world_model.specs.Outcomes.{Outcome, outcome_of}
 use Rattle.world_model.specs.Refusing.{refusal_of, when_dead, when_no_entry}
 use Rattle.world_model.specs.Slots.{is_live}
 use Rattle.world_model.specs.Steps.{step}
-use Rattle.world_model.specs.Worlds.{IsLawful, empty_world}
+use Rattle.world_model.specs.Worlds.{IsLawful}
 use Rattle.world_model.proofs.AcceptedLemmas.{alive}
-use Rattle.world_model.proofs.LawfulLemmas.{empty_lawful}
 use Rattle.world_model.proofs.SlotLemmas.{released_dead}
 use Rattle.world_model.proofs.StepLaw.{step_lawful}
 use Rattle.world_model.proofs.StepLemmas.{step_cases, step_same}
@@ -41,31 +38,35 @@ use Rattle.registry_uses.specs.Scenes.{scene_components, IsScene}
 pub scene_stays : (old new : Held) → IsScene old → new.limit ≡ old.limit → new.world ≡ old.world → IsScene new
 scene_stays old new h limit world = record {
   limit = limit ∙ h.limit;
-  lawful = subst (λ (n : ℕ). IsLawful n new.world) (sym limit) (subst (λ (w : World). IsLawful old.limit w) (sym world) h.lawful);
   decls = ap (λ (w : World). w.decls) world ∙ h.decls;
   groups = ap (λ (w : World). w.groups) world ∙ h.groups;
 }
 
 -- a step keeps a scene, unless it adds a group
-pub scene_after : (old new : Held) (command : Command) → IsScene old → IsAllowed old.world command → (outcome_of old.limit old.world command).world.groups ≡ old.world.groups → Does old new command → IsScene new
-scene_after old new command h allowed accepted_groups does =
-    let lawful = step_lawful old.limit old.world command h.lawful allowed in
+pub scene_after : (old new : Held) (command : Command) → IsScene old → (outcome_of old.limit old.world command).world.groups ≡ old.world.groups → Does old new command → IsScene new
+scene_after old new command h accepted_groups does =
     let groups : (step old.limit old.world command).world.groups ≡ old.world.groups = step_cases (λ o. o.world.groups ≡ old.world.groups) old.limit old.world command (λ _ _. refl) (λ _. accepted_groups) in
     record {
       limit = does.limit ∙ h.limit;
-      lawful = subst (λ (n : ℕ). IsLawful n new.world) (sym does.limit) (subst (λ (w : World). IsLawful old.limit w) (sym does.world) lawful);
       decls = ap (λ (w : World). w.decls) does.world ∙ (step_same old.limit old.world command).decls ∙ h.decls;
       groups = ap (λ (w : World). w.groups) does.world ∙ groups ∙ h.groups;
     }
 
 -- so does what leaves all as before
 pub scene_as_before : (old new : Held) → IsScene old → AsBefore old new → IsScene new
-scene_as_before old new h before = scene_stays old new h before.limit before.world
+scene_as_before old new h before = scene_stays old new h before.unchanged.limit before.unchanged.world
 
 -- what was done or refused keeps a scene
-pub scene_by : {A : Type 0} (old new : Held) (command : Command) (r : Result A Refusal) → IsScene old → IsAllowed old.world command → (outcome_of old.limit old.world command).world.groups ≡ old.world.groups → OnOk r (Does old new command) → OnErr r (AsBefore old new) → IsScene new
-scene_by old new command (Ok x) h allowed groups does before = scene_after old new command h allowed groups does
-scene_by old new command (Err refused) h allowed groups does before = scene_as_before old new h before
+pub scene_by : {A : Type 0} (old new : Held) (command : Command) (r : Result A Refusal) → IsScene old → (outcome_of old.limit old.world command).world.groups ≡ old.world.groups → OnOk r (Does old new command) → OnErr r (AsBefore old new) → IsScene new
+scene_by old new command (Ok x) h groups does before = scene_after old new command h groups does
+scene_by old new command (Err refused) h groups does before = scene_as_before old new h before
+
+-- ---- the law
+
+-- a step keeps a lawful world
+pub lawful_after : (old new : Held) (command : Command) → IsLawful old.limit old.world → IsAllowed old.world command → Does old new command → IsLawful new.limit new.world
+lawful_after old new command lawful allowed does =
+    subst (λ (n : ℕ). IsLawful n new.world) (sym does.limit) (subst (λ (w : World). IsLawful old.limit w) (sym does.world) (step_lawful old.limit old.world command lawful allowed))
 
 -- ---- answers
 
@@ -117,19 +118,7 @@ told_is limit w e pool row =
 pub entry_passes : (w : World) (pool : ℕ) (e : Entity) (further : Option Refusal) → are_declared (length w.decls) (pool ∷ []) ≡ true → is_live w.slots e ≡ true → further ≡ None → when_no_entry w pool e further ≡ None
 entry_passes w pool e further declared live none = grind arith
 
--- ---- a scene begun, copied
-
--- the components are lawful
-pub scene_decls : AllByRecursion IsDecl scene_components
-scene_decls = (record { few = lit≤ tt; long = refl; padded = refl }, (record { few = lit≤ tt; long = refl; padded = refl }, (record { few = lit≤ tt; long = refl; padded = refl }, tt)))
-
--- an empty registry of them is a scene
-pub scene_begun : IsScene (unheard SLOT_LIMIT (empty_world p20_12 scene_components))
-scene_begun = record { limit = refl; lawful = empty_lawful SLOT_LIMIT p20_12 scene_components refl (lit≤ tt) (lit≤ tt) scene_decls; decls = refl; groups = refl }
-
--- a lawful world is lawful at every tick
-pub lawful_at : (limit tick : ℕ) (w : World) → IsLawful limit w → IsLawful limit (record w { tick = tick })
-lawful_at limit tick w h = record { profile = h.profile; few_decls = h.few_decls; decls = h.decls; slots = h.slots; pools = h.pools; groups = h.groups }
+-- ---- a scene copied
 
 -- a component of a scene
 pub is_declared : (held : Held) (pool : ℕ) → IsScene held → are_declared (length scene_components) (pool ∷ []) ≡ true → are_declared (length held.world.decls) (pool ∷ []) ≡ true
@@ -174,6 +163,20 @@ after_either (Err e) p q = q
 pub if_refused : {A E P : Type 0} {R : E → Type 0} (r : Result A E) → OnErr r P → ((cause : E) → P → R cause) → IfErr r R
 if_refused (Ok x) p f = tt
 if_refused (Err cause) p f = f cause p
+
+-- ---- a call that is never refused
+
+pub done_by : {A E P : Type 0} (r : Result A E) → OnErr r ⊥ → OnOk r P → P
+done_by (Ok x) never p = p
+done_by (Err e) never p = absurd never
+
+pub always_ok : {A E : Type 0} (r : Result A E) → OnErr r ⊥ → is_ok r ≡ true
+always_ok (Ok x) never = refl
+always_ok (Err e) never = absurd never
+
+pub no_refusal : {A E : Type 0} (Q : E → Type 0) (r : Result A E) → OnErr r ⊥ → IfErr r Q
+no_refusal Q (Ok x) never = tt
+no_refusal Q (Err e) never = absurd never
 
 -- a destruction is refused for one cause
 pub dead_reply : (limit : ℕ) (w : World) (e : Entity) (cause : Refusal) → (step limit w (Destroy e)).reply ≡ Refused cause → cause ≡ refusal.Dead

@@ -63,4 +63,4 @@ pub does_alone : (old mid new : Held) (command : Command) → Does old mid comma
 does_alone old mid new command one before =
     let first : Outcome = step old.limit old.world command in
     subst (λ (w : World). Becomes old new w first.events) one.world
-    (subst (λ (events : List Event). Becomes old new mid.world events) (append-nil first.events) (becomes_both old mid new first.world mid.world first.events [] one before))
+    (subst (λ (events : List Event). Becomes old new mid.world events) (append-nil first.events) (becomes_both old mid new first.world mid.world first.events [] one before.unchanged))

@@ -8,7 +8,6 @@ use Rattle.world_model.specs.declared.component.Row.{Row}
 use Rattle.world_model.specs.declared.world.World.{World}
 use Rattle.world_model.specs.Slots.{plain_creation}
 use Rattle.world_model.specs.Steps.{run}
-use Rattle.world_model.specs.Worlds.{IsLawful}
 use Rattle.registry.specs.Held.{Held, Becomes}
 use Rattle.registry_uses.specs.declared.beginning.TheConstants.{SLOT_LIMIT}
 
@@ -20,10 +19,9 @@ numbers name count = record { name = name; count = count; kinds = Int ∷ Int �
 abbrev pub scene_components : List Decl
 scene_components = numbers (codes "position") 2 ∷ numbers (codes "velocity") 2 ∷ numbers (codes "frozen") 0 ∷ []
 
--- a registry of these components, whose world is lawful and has no groups
+-- a registry of these components, without groups
 pub record IsScene (held : Held) : Type 0 where
   pub limit : held.limit ≡ SLOT_LIMIT
-  pub lawful : IsLawful held.limit held.world
   pub decls : held.world.decls ≡ scene_components
   pub groups : held.world.groups ≡ []
 

@@ -10,7 +10,7 @@ use entity_id::{Name, OutOfMemory, P20_12};
 use registry::Registry;
 use signal_sink::Listener;
 use std::alloc::Global;
-use world_model::{Decl, DeclList, Kind};
+use world_model::{Decl, Kind};
 
 /// The number of the component of places.
 pub const POSITION: u32 = 0;
@@ -36,14 +36,14 @@ pub fn begin<L: Listener>(alloc: Global) -> Result<Registry<L>, OutOfMemory>
 }
 
 // The components of a scene: `position` and `velocity`, of two numbers each, and `frozen`, of none.
-fn declare(alloc: Global) -> Result<DeclList, OutOfMemory>
-    ensures { IfOk result (λ decls. decls ≡ scene_components) }
+fn declare(alloc: Global) -> Result<Vec<Decl>, OutOfMemory>
+    ensures { IfOk result (λ decls. decls.items ≡ scene_components) }
 {
     let mut decls = Vec::new(alloc);
     decls.push(component(alloc, b"position", 2)?)?;
     decls.push(component(alloc, b"velocity", 2)?)?;
     decls.push(component(alloc, b"frozen", 0)?)?;
-    Ok(DeclList::from_vec(decls))
+    Ok(decls)
 }
 
 fn component(alloc: Global, name: &[u8], count: u32) -> Result<Decl, OutOfMemory>

@@ -10,6 +10,7 @@ ghost use Rattle.world_model.specs.Outcomes.{tells};
 ghost use Rattle.world_model.specs.Steps.{step};
 ghost use Rattle.registry.specs.Held.{reply_to};
 ghost use Rattle.registry.specs.Listeners.{listeners_at};
+ghost use Rattle.registry.specs.Packing.{Repacks};
 ghost use Rattle.registry_uses.specs.Scenes.{IsScene};
 
 use crate::beginning::POSITION;
@@ -24,9 +25,9 @@ use world_model::{EventKind, Refusal};
 /// Destroys an entity while a recorder listens for places that go, and gives the recorder back: it
 /// heard of the entity's place, where it had one, and of nothing else. `TooMany` where 8 listeners
 /// have been connected there before, then `Dead` exactly where the entity isn't live, and
-/// `OutOfMemory`; then the world is as before. A call that ends well or with `Dead` uses up one of those
-/// 8 connections for ever, so that on one registry the ninth such call is `TooMany`. (EnTT:
-/// `registry.on_destroy<position>().connect<..>()`.)
+/// `OutOfMemory`; then the world and the packed order of each pool are as before. A call that ends
+/// well or with `Dead` uses up one of those 8 connections for ever, so that on one registry the ninth
+/// such call is `TooMany`. (EnTT: `registry.on_destroy<position>().connect<..>()`.)
 pub fn heard_of_end<G: Ledger>(
     alloc: Global,
     registry: &mut Registry<Recorder>,
@@ -40,8 +41,10 @@ pub fn heard_of_end<G: Ledger>(
         then tells event.Destroy POSITION entity ∷ [] else [])) }
     ensures world { OnOk result (registry.new.world ≡
         (step registry.old.limit registry.old.world (Destroy entity)).world) }
+    ensures packed { OnOk result (Repacks registry.old registry.new (Destroy entity)) }
     ensures was_live { OnOk result (reply_to registry.old (Valid entity) ≡ Truth true) }
     ensures err { OnErr result (registry.new.world ≡ registry.old.world) }
+    ensures same_order { OnErr result (registry.new.packed ≡ registry.old.packed) }
     ensures dead { IfErr result (λ refused. refused ≡ Refusal.Dead →
         reply_to registry.old (Valid entity) ≡ Truth false) }
     ensures too_many { IfErr result (λ refused. refused ≡ Refusal.TooMany →
@@ -54,6 +57,7 @@ pub fn heard_of_end<G: Ledger>(
     ensures cause { IfErr result (λ refused. refused ≢ Refusal.Dead →
         refused ≢ Refusal.TooMany → refused ≡ Refusal.OutOfMemory) }
 {
+    registry.law();
     let number = match registry.connect(EventKind::Destroy, POSITION, Recorder::new(alloc)) {
         Ok(number) => number,
         Err(refused) => return Err(refused.cause),

@@ -15,20 +15,24 @@ use signal_sink::Listener;
 use std::alloc::Global;
 use world_model::Refusal;
 
-/// Moves all that have a place and a velocity and aren't frozen. Refused for want of memory alone, and
-/// then each of them is at its next place or where it was. All else of the world is as before. Takes
-/// memory. (EnTT: a loop over `registry.view<position, velocity>(entt::exclude<frozen>)`.)
+/// Moves all that have a place and a velocity and aren't frozen. Refused for want of memory alone,
+/// and then each of them is at its next place or where it was. All else of the world is as before,
+/// and so is the packed order of each pool. Takes memory. (EnTT: a loop over
+/// `registry.view<position, velocity>(entt::exclude<frozen>)`.)
 pub fn advance_all<L: Listener>(alloc: Global, registry: &mut Registry<L>) -> Result<(), Refusal>
     requires { IsScene registry.old }
     ensures scene { IsScene registry.new }
     ensures ok { OnOk result (IsMoved registry.old.world registry.new.world) }
     ensures err { OnErr result (IsPartlyMoved registry.old.world registry.new.world) }
+    ensures packed { registry.new.packed ≡ registry.old.packed }
     ensures cause { IfErr result (λ refused. refused ≡ Refusal.OutOfMemory) }
 {
+    registry.law();
     let moving = pools_of(alloc, &[POSITION, VELOCITY])?;
     let frozen = pools_of(alloc, &[FROZEN])?;
     let entities = registry.view(&moving, &frozen)?;
     for entity in entities.as_slice() {
+        registry.law();
         advance(registry, *entity)?;
     }
     Ok(())
@@ -53,6 +57,7 @@ fn advance<L: Listener>(registry: &mut Registry<L>, entity: Entity) -> Result<()
     ensures reply { OnOk result (reply_to registry.old
         (Replace entity POSITION (next_place registry.old.world entity)) ≡ Done) }
     ensures err { OnErr result (AsBefore registry.old registry.new) }
+    ensures packed { registry.new.packed ≡ registry.old.packed }
     ensures cause { IfErr result (λ refused. refused ≢ Refusal.OutOfMemory →
         (refusal_to registry.old (Get entity POSITION) ≡ Some refused)
         ⊎ (refusal_to registry.old (Get entity VELOCITY) ≡ Some refused)) }

@@ -7,6 +7,7 @@ ghost use Rattle.world_model.specs.Components.{with_field};
 ghost use Rattle.world_model.specs.Contents.{has_row, row_at};
 ghost use Rattle.world_model.specs.Refusing.{when_dead};
 ghost use Rattle.registry.specs.Held.{AsBefore, Does, reply_to, refusal_to};
+ghost use Rattle.registry.specs.Packing.{Repacks};
 ghost use Rattle.registry_uses.specs.Moving.{lifted_height};
 ghost use Rattle.registry_uses.specs.Scenes.{pair, IsScene};
 
@@ -33,11 +34,14 @@ pub fn steer<L: Listener, G: Ledger>(
     ensures scene { IsScene registry.new }
     ensures does { OnOk result (Does registry.old registry.new
         (EmplaceOrReplace entity VELOCITY (pair x y))) }
+    ensures packed { OnOk result (Repacks registry.old registry.new
+        (EmplaceOrReplace entity VELOCITY (pair x y))) }
     ensures told { OnOk result (reply_to registry.new (Get entity VELOCITY) ≡ Values (pair x y)) }
     ensures err { OnErr result (AsBefore registry.old registry.new) }
     ensures cause { IfErr result (λ refused. refused ≢ Refusal.OutOfMemory →
         when_dead registry.old.world entity ≡ Some refused) }
 {
+    registry.law();
     registry.emplace_or_replace(entity, VELOCITY, pair_of(x, y), steps)
 }
 
@@ -50,6 +54,7 @@ pub fn lift<L: Listener>(registry: &mut Registry<L>, entity: Entity, by: i64) ->
     ensures scene { IsScene registry.new }
     ensures does { OnOk result (Does registry.old registry.new (Patch entity POSITION 1
         (lifted_height (row_at registry.old.world POSITION entity) by))) }
+    ensures packed { OnOk result (registry.new.packed ≡ registry.old.packed) }
     ensures lifted { OnOk result (reply_to registry.new (Get entity POSITION) ≡ Values
         (with_field (row_at registry.old.world POSITION entity) 1
         (lifted_height (row_at registry.old.world POSITION entity) by))) }
@@ -57,6 +62,7 @@ pub fn lift<L: Listener>(registry: &mut Registry<L>, entity: Entity, by: i64) ->
     ensures cause { IfErr result (λ refused. refused ≢ Refusal.OutOfMemory →
         refusal_to registry.old (Get entity POSITION) ≡ Some refused) }
 {
+    registry.law();
     let place = registry.get(entity, POSITION)?;
     registry.patch(entity, POSITION, 1, lifted(&place, by))
 }
@@ -74,12 +80,15 @@ pub fn set_frozen<L: Listener, G: Ledger>(
     ensures scene { IsScene registry.new }
     ensures does { OnOk result (Does registry.old registry.new (if frozen
         then EmplaceOrReplace entity FROZEN (pair (pos 0) (pos 0)) else Remove entity FROZEN)) }
+    ensures packed { OnOk result (Repacks registry.old registry.new (if frozen
+        then EmplaceOrReplace entity FROZEN (pair (pos 0) (pos 0)) else Remove entity FROZEN)) }
     ensures frozen { OnOk result (has_row registry.new.world FROZEN entity ≡ frozen) }
     ensures live { OnOk result (reply_to registry.old (Valid entity) ≡ Truth true) }
     ensures err { OnErr result (AsBefore registry.old registry.new) }
     ensures cause { IfErr result (λ refused. refused ≢ Refusal.OutOfMemory →
         when_dead registry.old.world entity ≡ Some refused) }
 {
+    registry.law();
     if frozen {
         registry.emplace_or_replace(entity, FROZEN, pair_of(0, 0), steps)?;
     } else {

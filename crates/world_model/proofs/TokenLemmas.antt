@@ -1,5 +1,5 @@
 -- Tokens are read in one way.
-use Rattle.std.proofs.Common.{◌≡◌, ◌≢◌, ℕ, zero, suc, ◌/◌, ◌%◌, ◌^◌, ◌<◌, ◌≤◌, true, false, cond, eqb, List, [], ◌∷◌, ◌++◌, length, get_or, Some, None, refl, sym, ap, subst, ◌∙◌, arith, inl, inr}
+use Rattle.std.proofs.Common.{◌≡◌, ◌≢◌, ℕ, zero, suc, ◌/◌, ◌%◌, ◌^◌, ◌<◌, ◌≤◌, true, false, cond, eqb, List, [], ◌∷◌, ◌++◌, length, get_or, refl, sym, ap, subst, ◌∙◌, arith, inl, inr}
 use Rattle.std.specs.Fmt.{decimal, digits, digits_onto, digit_glyph}
 use Rattle.std.proofs.lemmas.Bool.{and_parts, or_cases, eqb-true, ltb-true}
 use Rattle.std.proofs.lemmas.Bool.Decides.{nat_tests}
@@ -14,7 +14,7 @@ use Rattle.entity_id.proofs.TextLemmas.{entity_text_injective}
 use Rattle.world_model.specs.declared.component.Decl.{Decl}
 use Rattle.world_model.specs.declared.tokens.FieldAt.{FieldAt}
 use Rattle.world_model.specs.Components.{is_below, is_target}
-use Rattle.world_model.specs.Tokens.{component_named, field_count, IsFieldToken}
+use Rattle.world_model.specs.Tokens.{component_named, field_count, IsNameToken, IsFieldToken}
 
 -- ---- fields
 
@@ -45,30 +45,29 @@ parts_of decls token name number at cut is =
     same_last_cut 46 name is.name number (decimal at.field) cut.last (decimal_lacks_dot at.field) (sym cut.whole ∙ is.whole)
 
 -- where the name is of the component of this number, so is the field
-pool_of : (decls : List Decl) (token name number : List ℕ) (pool : ℕ) (at : FieldAt) → IsLastCut token 46 name number → component_named decls name ≡ Some pool → IsFieldToken decls token at → pool ≡ at.pool
+pool_of : (decls : List Decl) (token name number : List ℕ) (pool : ℕ) (at : FieldAt) → IsLastCut token 46 name number → IsNameToken decls name pool → IsFieldToken decls token at → pool ≡ at.pool
 pool_of decls token name number pool at cut named is =
     let same = ap (component_named decls) (parts_of decls token name number at cut is).0 in
-    let there = is.named in
+    let here = named.first in
+    let there = is.named.first in
     cc
 
-pub no_such_name : (decls : List Decl) (token name number : List ℕ) (at : FieldAt) → IsLastCut token 46 name number → None ≡ component_named decls name → IsFieldToken decls token at → ⊥
+pub no_such_name : (decls : List Decl) (token name number : List ℕ) (at : FieldAt) → IsLastCut token 46 name number → ((pool : ℕ) → IsNameToken decls name pool → ⊥) → IsFieldToken decls token at → ⊥
 no_such_name decls token name number at cut none is =
-    let same = ap (component_named decls) (parts_of decls token name number at cut is).0 in
-    let there = is.named in
-    absurd cc
+    none at.pool (subst (λ (n : List ℕ). IsNameToken decls n at.pool) (sym (parts_of decls token name number at cut is).0) is.named)
 
-pub no_number : (decls : List Decl) (token name number : List ℕ) (pool count : ℕ) (at : FieldAt) → IsLastCut token 46 name number → component_named decls name ≡ Some pool → field_count decls pool ≡ count → ((n : ℕ) → n ≤ count → number ≢ decimal n) → IsFieldToken decls token at → ⊥
+pub no_number : (decls : List Decl) (token name number : List ℕ) (pool count : ℕ) (at : FieldAt) → IsLastCut token 46 name number → IsNameToken decls name pool → field_count decls pool ≡ count → ((n : ℕ) → n ≤ count → number ≢ decimal n) → IsFieldToken decls token at → ⊥
 no_number decls token name number pool count at cut named counted none is =
     let same = ap (field_count decls) (pool_of decls token name number pool at cut named is) in
     none at.field (omega (arith, is.within)) (parts_of decls token name number at cut is).1
 
-pub past_the_fields : (decls : List Decl) (token name number : List ℕ) (pool count field : ℕ) (at : FieldAt) → IsLastCut token 46 name number → component_named decls name ≡ Some pool → field_count decls pool ≡ count → field < 2 ^ 64 → count ≤ field → number ≡ decimal field → IsFieldToken decls token at → ⊥
+pub past_the_fields : (decls : List Decl) (token name number : List ℕ) (pool count field : ℕ) (at : FieldAt) → IsLastCut token 46 name number → IsNameToken decls name pool → field_count decls pool ≡ count → field < 2 ^ 64 → count ≤ field → number ≡ decimal field → IsFieldToken decls token at → ⊥
 past_the_fields decls token name number pool count field at cut named counted small past e is =
     let same = ap (field_count decls) (pool_of decls token name number pool at cut named is) in
     let spelled = decimal_injective field at.field small (omega (arith, is.within)) (sym e ∙ (parts_of decls token name number at cut is).1) in
     omega (arith, is.within)
 
-pub field_token : (decls : List Decl) (token name number : List ℕ) (pool count field : ℕ) → IsLastCut token 46 name number → component_named decls name ≡ Some pool → field_count decls pool ≡ count → field < count → number ≡ decimal field → IsFieldToken decls token (record { pool = pool; field = field })
+pub field_token : (decls : List Decl) (token name number : List ℕ) (pool count field : ℕ) → IsLastCut token 46 name number → IsNameToken decls name pool → field_count decls pool ≡ count → field < count → number ≡ decimal field → IsFieldToken decls token (record { pool = pool; field = field })
 field_token decls token name number pool count field cut named counted within e = record {
   name = name;
   whole = cut.whole ∙ ap (λ (t : List ℕ). name ++ 46 ∷ t) e;

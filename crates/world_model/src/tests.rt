@@ -140,6 +140,7 @@ fn tokens_name_the_first_component_and_its_fields(rt: HostRuntime) -> Result<(),
         ("position", Some(0)),
         ("tag", Some(1)),
         ("tags", None),
+        ("a.b", None),
         ("", None),
     ];
     for (token, pool) in names {
@@ -147,7 +148,7 @@ fn tokens_name_the_first_component_and_its_fields(rt: HostRuntime) -> Result<(),
     }
     let fields = [
         ("position.1", Some(FieldAt { pool: 0, field: 1 })),
-        ("a.b.0", Some(FieldAt { pool: 3, field: 0 })),
+        ("a.b.0", None),
         ("position.2", None),
         ("position.01", None),
         ("position.", None),

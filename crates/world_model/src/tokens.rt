@@ -1,13 +1,13 @@
 //! Single tokens: names of components, fields and values.
 
-ghost use Rattle.std.specs.Prelude.{◌≡◌, ◌<◌, ◌≤◌, ℤ, length, slice_get, slice_index_or, IfSome, IfNone, IsTrue};
+ghost use Rattle.std.specs.Prelude.{◌≡◌, ◌<◌, ◌≤◌, ℕ, ℤ, length, slice_get, slice_index_or, IfSome, IfNone, IsTrue};
 ghost use Rattle.world_model.specs.declared.tokens.FieldAt.{FieldAt};
 ghost use Rattle.world_model.specs.declared.component.Decl.{Decl};
 ghost use Rattle.world_model.specs.Components.{has_name, is_target as target};
-ghost use Rattle.world_model.specs.Tokens.{component_named, IsFieldToken, IsTargetToken, IsValueToken};
+ghost use Rattle.world_model.specs.Tokens.{component_named, IsNameToken, IsFieldToken, IsTargetToken, IsValueToken};
 ghost use Rattle.world_model.specs.Worlds.{component_limit};
 
-use super::{Decl, Kind, read_int};
+use super::{Decl, Kind, is_name, read_int};
 use entity_id::{Entity, Profile, parse_entity, read_nat, rsplit_once};
 
 /// A field of a component.
@@ -19,9 +19,26 @@ pub struct FieldAt {
     pub field: u32,
 }
 
-/// The number of the first of at most 64 components that has this name, whatever its form. None exactly
-/// where none has it. No memory.
+/// The number of the component that a token names: the first of at most 64 components that has this
+/// name. None exactly where the token doesn't have the form of a name, as [`is_name`] says, or where no
+/// component has this name. No memory.
 pub fn read_name(token: &[u8], decls: &[Decl]) -> Option<u32>
+    requires { length decls.now ≤ component_limit }
+    ensures some { IfSome result (λ pool. IsNameToken decls.now token.now pool) }
+    ensures declared { IfSome result (λ pool. pool < length decls.now) }
+    ensures named { IfSome result (λ pool.
+        (d : Decl) → IsTrue (has_name token.now (slice_index_or decls.now pool d))) }
+    ensures none { IfNone result ((pool : ℕ) → IsNameToken decls.now token.now pool → ⊥) }
+{
+    if is_name(token) {
+        first_named(token, decls)
+    } else {
+        None
+    }
+}
+
+// The number of the first component of this name, whatever its form.
+fn first_named(token: &[u8], decls: &[Decl]) -> Option<u32>
     requires { length decls.now ≤ component_limit }
     ensures first { result ≡ component_named decls.now token.now }
     ensures declared { IfSome result (λ pool. pool < length decls.now) }
@@ -32,13 +49,13 @@ pub fn read_name(token: &[u8], decls: &[Decl]) -> Option<u32>
     Some(pool as u32)
 }
 
-/// The field that a token names: the name of one of at most 64 components, a dot, and the field's number
-/// in decimal without a leading zero, below the component's number of fields. The name is what stands
-/// before the last dot, and the component is the first of that name. None exactly where the token names
-/// no field. No memory.
+/// The field that a token names: the name of one of at most 64 components, as [`read_name`] reads it, a
+/// dot, and the field's number in decimal without a leading zero, below the component's number of fields.
+/// The name is what stands before the last dot. None exactly where the token names no field. No memory.
 pub fn read_field(token: &[u8], decls: &[Decl]) -> Option<FieldAt>
     requires { length decls.now ≤ component_limit }
     ensures some { IfSome result (λ at. IsFieldToken decls.now token.now at) }
+    ensures declared { IfSome result (λ at. at.pool < length decls.now) }
     ensures none { IfNone result
         ((at : FieldAt) → IsFieldToken decls.now token.now at → ⊥) }
 {

@@ -184,6 +184,6 @@ row_push format parts entity values limits is_row fits sound =
           (ap (λ rs. is_above rs entity) (get_or_from_slice_get parts.pools k rows.0 [] rows.1) ∙ rows.2)
           tests.0
           (row_is_row format.profile values limits is_row.few is_row.each)
-          (row_fits format.profile decl.0 values limits named.fields is_row.each decl.2))
+          (row_fits format.profile decl.0 values limits is_row.each decl.2))
           sound.pools;
     }

@@ -6,7 +6,6 @@ use Rattle.std.specs.Ordering.{int_eq}
 use Rattle.std.proofs.lemmas.Bool.{and_parts, and_from, or_cases, eqb-true, ltb-true, ltb-false, or_right, false≢true}
 use Rattle.std.proofs.lemmas.Grind.{common_steps}
 use Rattle.std.proofs.lemmas.List.{length-append, length-map, length-take, length-replicate}
-use Rattle.std.proofs.Math.Seq.{take-append_seam, drop-append_seam}
 use Rattle.entity_id.specs.declared.entity.Profile.{Profile}
 use Rattle.entity_id.specs.declared.entity.Entity.{Entity}
 use Rattle.entity_id.specs.Identifiers.{HasLimits, IsOfProfile, null, is_same, is_profile, is_same_profile, p20_12, p32_32}
@@ -20,8 +19,9 @@ use Rattle.world_text.specs.FieldValues as value
 use Rattle.world_text.specs.Lines.{IsValue}
 use Rattle.world_text.specs.Meaning.{field_of_value, row_of}
 use Rattle.world_text.specs.Fitting.{is_of_kind, are_of_kinds}
+use Rattle.world_text.proofs.PrintingLemmas.{zip-take}
 use Rattle.world_model.specs.Integers.{IsI64}
-use Rattle.world_model.specs.Components.{IsDecl, IsRow, kinds_of, is_below, fits_kind, fits}
+use Rattle.world_model.specs.Components.{IsRow, kinds_of, is_below, fits_kind, fits}
 
 same_limits : (profile other : Profile) → is_same_profile profile other ≡ true → HasLimits other → HasLimits profile
 same_limits profile other same limits =
@@ -114,19 +114,39 @@ zero_fields : (n : ℕ) → AllByRecursion IsI64 (replicate n (pos 0))
 zero_fields zero = tt
 zero_fields (suc n) = (omega arith, zero_fields n)
 
+-- a list beside one that has more has nothing of what is more
+pub zip-front : {A B : Type 0} (xs : List A) (ys zs : List B) → length xs ≡ length ys → zip xs (ys ++ zs) ≡ zip xs ys
+zip-front [] [] zs e = refl
+zip-front [] (y ∷ ys) zs e = refl
+zip-front (x ∷ xs) [] zs e = absurd (omega arith)
+zip-front (x ∷ xs) (y ∷ ys) zs e = ap (λ ps. (x, y) ∷ ps) (zip-front xs ys zs (omega arith))
+
+-- the fields of a component beside those of the row of its values
+pub fields_beside : (profile : Profile) (decl : Decl) (values : List FieldValue) → length (kinds_of decl) ≡ length values → zip (kinds_of decl) (take decl.count (row_of profile values).f) ≡ zip (kinds_of decl) (map (field_of_value profile) values)
+fields_beside profile decl values as_many =
+    let fields : List ℤ = map (field_of_value profile) values in
+    sym (zip-take decl.count decl.kinds (row_of profile values).f)
+    ∙ zip-front (kinds_of decl) fields (replicate (4 - length values) (pos 0)) (as_many ∙ sym (length-map values (field_of_value profile)))
+
+-- zeros behind as many fields as there may be
+zeros_behind : (n : ℕ) (fields : List ℤ) (more : ℕ) → length fields ≤ n → list_all (λ v. int_eq v (pos 0)) (drop n (fields ++ replicate more (pos 0))) ≡ true
+zeros_behind zero [] more few = zeros more
+zeros_behind (suc n) [] zero few = refl
+zeros_behind (suc n) [] (suc more) few = zeros_behind n [] more (omega arith)
+zeros_behind zero (v ∷ fields) more few = absurd (omega arith)
+zeros_behind (suc n) (v ∷ fields) more few = zeros_behind n fields more (omega arith)
+
 -- the row of a component's values fits it
-pub row_fits : (profile : Profile) (decl : Decl) (values : List FieldValue) → HasLimits profile → IsDecl decl → AllByRecursion (IsValue profile) values → are_of_kinds (kinds_of decl) values ≡ true → fits profile decl (row_of profile values) ≡ true
-row_fits profile decl values limits is_decl each of_kinds =
+pub row_fits : (profile : Profile) (decl : Decl) (values : List FieldValue) → HasLimits profile → AllByRecursion (IsValue profile) values → are_of_kinds (kinds_of decl) values ≡ true → fits profile decl (row_of profile values) ≡ true
+row_fits profile decl values limits each of_kinds =
     let parts = and_parts (eqb (length (kinds_of decl)) (length values)) (list_all (λ pair. is_of_kind pair.0 pair.1) (zip (kinds_of decl) values)) of_kinds in
     let as_many : length (kinds_of decl) ≡ length values = eqb-true _ _ parts.0 in
     let fields : List ℤ = map (field_of_value profile) values in
-    let rest : List ℤ = replicate (4 - length values) (pos 0) in
-    let long : length fields ≡ decl.count = omega (arith, length-map values (field_of_value profile), length-take decl.count decl.kinds, is_decl.few, is_decl.long) in
+    let few : length fields ≤ decl.count = omega (arith, length-map values (field_of_value profile), length-take decl.count decl.kinds) in
     and_from _ _
-    (ap (λ xs. list_all (λ pair. fits_kind profile pair.0 pair.1) (zip (kinds_of decl) xs)) (ap (λ n. take n (fields ++ rest)) (sym long) ∙ take-append_seam fields rest)
+    (ap (list_all (λ pair. fits_kind profile pair.0 pair.1)) (fields_beside profile decl values as_many)
     ∙ kinds_fit profile (kinds_of decl) values limits each parts.1)
-    (ap (list_all (λ v. int_eq v (pos 0))) (ap (λ n. drop n (fields ++ rest)) (sym long) ∙ drop-append_seam fields rest)
-    ∙ zeros (4 - length values))
+    (zeros_behind decl.count fields (4 - length values) few)
 
 -- the row of at most 4 values is a row
 pub row_is_row : (profile : Profile) (values : List FieldValue) → HasLimits profile → length values ≤ 4 → AllByRecursion (IsValue profile) values → IsRow (row_of profile values)

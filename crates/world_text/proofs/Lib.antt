@@ -1,6 +1,8 @@
 pub mod AddingLemmas
 pub mod BegunLemmas
+pub mod CompleteLemmas
 pub mod Faults
+pub mod FieldLemmas
 pub mod FormatLemmas
 pub mod KeptLemmas
 pub mod LawfulLemmas

@@ -11,8 +11,9 @@ use Rattle.world_model.specs.declared.component.Decl.{Decl}
 use Rattle.world_model.specs.Names.{is_name, is_name_byte}
 use Rattle.world_text.specs.Lines.{IsNamedDecl}
 use Rattle.world_model.specs.Components.{has_name}
+use Rattle.world_model.specs.Tokens.{component_named, IsNameToken}
 use Rattle.world_text.specs.Documents.{AreNamedDecls, are_named_apart}
-use Rattle.world_text.specs.Scripts.{name_at}
+use Rattle.world_text.specs.Scripts.{name_at, IsCalled}
 use Rattle.world_text.specs.ScriptReading.{ends_name, EndsName, IsNameSplit, IsPoolNext}
 
 -- ---- a text has one cut at the end of its name
@@ -125,8 +126,8 @@ cut_nowhere text front back none is_front is_back =
 
 -- ---- components by their names
 
--- one text begins with one component's name
-pub named_at : (decls : List Decl) (pool : ℕ) → AllByRecursion IsNamedDecl decls → pool < length decls → is_name (name_at decls pool) ≡ true
+-- a component has a name of the form of names
+named_at : (decls : List Decl) (pool : ℕ) → AllByRecursion IsNamedDecl decls → pool < length decls → is_name (name_at decls pool) ≡ true
 named_at [] pool each within = absurd (omega arith)
 named_at (decl ∷ decls) zero each within = each.0.name
 named_at (decl ∷ decls) (suc pool) each within = named_at decls pool each.1 (omega arith)
@@ -141,18 +142,26 @@ differs name (decl ∷ decls) zero none within e = both_ways (bytes_eq name decl
 differs name (decl ∷ decls) (suc pool) none within e = differs name decls pool (or_parts (bytes_eq name decl.name) _ none).1 (omega arith) e
 
 -- where names stand apart, a name is at one place
-pub one_place : (decls : List Decl) (a b : ℕ) → are_named_apart decls ≡ true → a < length decls → b < length decls → name_at decls a ≡ name_at decls b → a ≡ b
+one_place : (decls : List Decl) (a b : ℕ) → are_named_apart decls ≡ true → a < length decls → b < length decls → name_at decls a ≡ name_at decls b → a ≡ b
 one_place [] a b apart la lb e = absurd (omega arith)
 one_place (decl ∷ decls) zero zero apart la lb e = refl
 one_place (decl ∷ decls) zero (suc b) apart la lb e = absurd (differs decl.name decls b (not-true _ (and_parts _ (are_named_apart decls) apart).0) (omega arith) e)
 one_place (decl ∷ decls) (suc a) zero apart la lb e = absurd (differs decl.name decls a (not-true _ (and_parts _ (are_named_apart decls) apart).0) (omega arith) (sym e))
 one_place (decl ∷ decls) (suc a) (suc b) apart la lb e = ap suc (one_place decls a b (and_parts _ _ apart).1 (omega arith) (omega arith) e)
 
+-- a name is that of one component
+pub one_called : (decls : List Decl) (a b : ℕ) → IsCalled decls a → IsCalled decls b → name_at decls a ≡ name_at decls b → a ≡ b
+one_called decls a b p q e = same_Some a b (sym p.named.first ∙ ap (component_named decls) e ∙ q.named.first)
+
+-- the name of a component has no byte that ends a name
+pub called_free : (decls : List Decl) (pool : ℕ) → IsCalled decls pool → IsFree (name_at decls pool)
+called_free decls pool called = name_free (name_at decls pool) called.named.form
+
 -- a text begins with one component's name
-pub one_pool : (decls : List Decl) (text x y : List ℕ) (a b : ℕ) → AreNamedDecls decls → IsPoolNext decls text a x → IsPoolNext decls text b y → (a ≡ b) × (x ≡ y)
-one_pool decls text x y a b named p q =
-    let same = same_name_split (name_at decls a) (name_at decls b) x y (name_free _ (named_at decls a named.each p.declared)) (name_free _ (named_at decls b named.each q.declared)) p.ended q.ended (ap (drop 1) (sym p.whole ∙ q.whole)) in
-    (one_place decls a b named.apart p.declared q.declared same.0, same.1)
+pub one_pool : (decls : List Decl) (text x y : List ℕ) (a b : ℕ) → IsPoolNext decls text a x → IsPoolNext decls text b y → (a ≡ b) × (x ≡ y)
+one_pool decls text x y a b p q =
+    let same = same_name_split (name_at decls a) (name_at decls b) x y (called_free decls a p.called) (called_free decls b q.called) p.ended q.ended (ap (drop 1) (sym p.whole ∙ q.whole)) in
+    (one_called decls a b p.called q.called same.0, same.1)
 
 -- where a name is found
 pub record IsFound (name : List ℕ) (decls : List Decl) (from place : ℕ) : Type 0 where
@@ -185,19 +194,44 @@ name_nowhere name (decl ∷ decls) from (suc pool) h within e = elim (cases_Bool
   | inr other ↦ name_nowhere name decls (from + 1) pool (sym (ap (λ b. cond b (Some from) (position_from (has_name name) (from + 1) decls)) other) ∙ h) (omega arith) e
 ]
 
--- the component that a text names
-pub pool_first : (decls : List Decl) (text behind name rest : List ℕ) (pool : ℕ) → text ≡ 32 ∷ behind → IsNameSplit behind name rest → position_from (has_name name) 0 decls ≡ Some pool → IsPoolNext decls text pool rest
-pool_first decls text behind name rest pool spaced split found =
-    let h = name_found name decls 0 pool found in
+-- where names stand apart, each tells its component
+pub called_in : (decls : List Decl) (pool : ℕ) → AreNamedDecls decls → pool < length decls → IsCalled decls pool
+called_in decls pool named declared =
+    let first : component_named decls (name_at decls pool) ≡ Some pool =
+    elim (component_named decls (name_at decls pool)) as (λ o. component_named decls (name_at decls pool) ≡ o → o ≡ Some pool) [
+      | None ↦ λ none. absurd (name_nowhere (name_at decls pool) decls 0 pool none declared refl)
+      | Some place ↦ λ found.
+          let h = name_found (name_at decls pool) decls 0 place found in
+          let same : h.pool ≡ pool = one_place decls h.pool pool named.apart h.declared declared (sym h.named) in
+          ap Some (omega (arith, h.counted, same))
+    ] refl in
+    record { declared = declared; named = record { form = named_at decls pool named.each declared; first = first } }
+
+-- a token that names a component is its name
+pub token_is_name : (decls : List Decl) (name : List ℕ) (pool : ℕ) → IsNameToken decls name pool → name ≡ name_at decls pool
+token_is_name decls name pool token =
+    let h = name_found name decls 0 pool token.first in
     let same : pool ≡ h.pool = omega (arith, h.counted) in
+    h.named ∙ ap (name_at decls) (sym same)
+
+pub token_called : (decls : List Decl) (name : List ℕ) (pool : ℕ) → IsNameToken decls name pool → IsCalled decls pool
+token_called decls name pool token =
+    let h = name_found name decls 0 pool token.first in
     record {
-      declared = omega (arith, h.declared);
-      whole = spaced ∙ ap (λ t. 32 ∷ t) (split.whole ∙ ap (λ n. n ++ rest) (h.named ∙ ap (name_at decls) (sym same)));
-      ended = split.ended;
+      declared = omega (arith, h.declared, h.counted);
+      named = subst (λ (n : List ℕ). IsNameToken decls n pool) (token_is_name decls name pool token) token;
     }
 
+-- the component that a text names
+pub pool_first : (decls : List Decl) (text behind name rest : List ℕ) (pool : ℕ) → text ≡ 32 ∷ behind → IsNameSplit behind name rest → IsNameToken decls name pool → IsPoolNext decls text pool rest
+pool_first decls text behind name rest pool spaced split token = record {
+  called = token_called decls name pool token;
+  whole = spaced ∙ ap (λ t. 32 ∷ t) (split.whole ∙ ap (λ n. n ++ rest) (token_is_name decls name pool token));
+  ended = split.ended;
+}
+
 -- a text names no component
-pub no_pool_first : (decls : List Decl) (text behind name rest : List ℕ) → AreNamedDecls decls → text ≡ 32 ∷ behind → IsNameSplit behind name rest → position_from (has_name name) 0 decls ≡ None → (pool : ℕ) (more : List ℕ) → IsPoolNext decls text pool more → ⊥
-no_pool_first decls text behind name rest named spaced split none pool more p =
-    name_nowhere name decls 0 pool none p.declared
-    (same_name_split name (name_at decls pool) rest more split.free (name_free _ (named_at decls pool named.each p.declared)) split.ended p.ended (sym split.whole ∙ ap (drop 1) (sym spaced ∙ p.whole))).0
+pub no_pool_first : (decls : List Decl) (text behind name rest : List ℕ) → text ≡ 32 ∷ behind → IsNameSplit behind name rest → ((pool : ℕ) → IsNameToken decls name pool → ⊥) → (pool : ℕ) (more : List ℕ) → IsPoolNext decls text pool more → ⊥
+no_pool_first decls text behind name rest spaced split none pool more p =
+    let same = same_name_split name (name_at decls pool) rest more split.free (called_free decls pool p.called) split.ended p.ended (sym split.whole ∙ ap (drop 1) (sym spaced ∙ p.whole)) in
+    none pool (subst (λ (n : List ℕ). IsNameToken decls n pool) (sym same.0) p.called.named)

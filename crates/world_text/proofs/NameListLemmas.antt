@@ -7,8 +7,7 @@ use Rattle.std.proofs.lemmas.List.{append-nil}
 use Rattle.std.proofs.lemmas.List.Elements.{All-nil, All-cons, All-head, All-tail}
 use Rattle.std.proofs.lemmas.List.Sums.{sum_by-append, sum_by-cons}
 use Rattle.world_model.specs.declared.component.Decl.{Decl}
-use Rattle.world_text.specs.Documents.{AreNamedDecls}
-use Rattle.world_text.specs.Scripts.{AreNamedOnce, name_at, names_text}
+use Rattle.world_text.specs.Scripts.{AreNamedOnce, IsCalled, name_at, names_text}
 use Rattle.world_text.specs.ScriptReading.{EndsName, ArePoolsNext, AreNamesNext, AreNamesLast, IsPoolNext, IsWithoutLast, is_over}
 use Rattle.world_text.proofs.NameLemmas.{one_pool}
 
@@ -19,13 +18,13 @@ pools_push decls text [] rest pool behind e p = (behind, subst (λ (t : List ℕ
 pools_push decls text (q ∷ pools) rest pool behind h p = (h.0, h.1, pools_push decls h.0 pools rest pool behind h.2 p)
 
 -- where further names stand, they follow on those that were read
-pub go_on : (decls : List Decl) (text : List ℕ) (pools : List ℕ) (rest : List ℕ) (all : List ℕ) (more : List ℕ) → AreNamedDecls decls → ArePoolsNext decls text pools rest → ArePoolsNext decls text all more → ((pool : ℕ) (z : List ℕ) → IsPoolNext decls more pool z → ⊥)
+pub go_on : (decls : List Decl) (text : List ℕ) (pools : List ℕ) (rest : List ℕ) (all : List ℕ) (more : List ℕ) → ArePoolsNext decls text pools rest → ArePoolsNext decls text all more → ((pool : ℕ) (z : List ℕ) → IsPoolNext decls more pool z → ⊥)
     → (left : List ℕ) × (all ≡ pools ++ left) × ArePoolsNext decls rest left more
-go_on decls text [] rest all more named p q last = (all, refl, subst (λ (t : List ℕ). ArePoolsNext decls t all more) p q)
-go_on decls text (a ∷ pools) rest [] more named p q last = absurd (last a p.0 (subst (λ (t : List ℕ). IsPoolNext decls t a p.0) q p.1))
-go_on decls text (a ∷ pools) rest (b ∷ all) more named p q last =
-    let same = one_pool decls text p.0 q.0 a b named p.1 q.1 in
-    let h = go_on decls p.0 pools rest all more named p.2 (subst (λ (t : List ℕ). ArePoolsNext decls t all more) (sym same.1) q.2) last in
+go_on decls text [] rest all more p q last = (all, refl, subst (λ (t : List ℕ). ArePoolsNext decls t all more) p q)
+go_on decls text (a ∷ pools) rest [] more p q last = absurd (last a p.0 (subst (λ (t : List ℕ). IsPoolNext decls t a p.0) q p.1))
+go_on decls text (a ∷ pools) rest (b ∷ all) more p q last =
+    let same = one_pool decls text p.0 q.0 a b p.1 q.1 in
+    let h = go_on decls p.0 pools rest all more p.2 (subst (λ (t : List ℕ). ArePoolsNext decls t all more) (sym same.1) q.2) last in
     (h.0, ap₂ (λ x xs. x ∷ xs) (sym same.0) h.1, h.2)
 
 pub none_left : (decls : List Decl) (rest left more : List ℕ) → ArePoolsNext decls rest left more → ((pool : ℕ) (z : List ℕ) → IsPoolNext decls rest pool z → ⊥) → (left ≡ []) × (rest ≡ more)
@@ -33,9 +32,9 @@ none_left decls rest [] more h last = (refl, h)
 none_left decls rest (pool ∷ left) more h last = absurd (last pool h.0 h.1)
 
 -- a text begins with one list of names
-pub one_names : (decls : List Decl) (others text a x b y : List ℕ) → AreNamedDecls decls → AreNamesNext decls others text a x → AreNamesNext decls others text b y → (a ≡ b) × (x ≡ y)
-one_names decls others text a x b y named p q =
-    let h = go_on decls text a x b y named p.next q.next q.last in
+pub one_names : (decls : List Decl) (others text a x b y : List ℕ) → AreNamesNext decls others text a x → AreNamesNext decls others text b y → (a ≡ b) × (x ≡ y)
+one_names decls others text a x b y p q =
+    let h = go_on decls text a x b y p.next q.next q.last in
     let none = none_left decls x h.0 y h.2 p.last in
     (sym (h.1 ∙ ap (λ left. a ++ left) none.0 ∙ append-nil a), none.1)
 
@@ -128,13 +127,13 @@ names_push decls others text pools rest pool behind h within next =
     }
 
 -- one too many, or named twice: no list of names
-pub no_names : (decls : List Decl) (others text pools rest : List ℕ) (pool : ℕ) (behind : List ℕ) → AreNamedDecls decls → AreNamesTaken decls others text pools rest → IsPoolNext decls rest pool behind → is_over others pools pool ≡ true → (all more : List ℕ) → AreNamesNext decls others text all more → ⊥
-no_names decls others text pools rest pool behind named h next over all more q =
-    let g = go_on decls text pools rest all more named h.next q.next q.last in
+pub no_names : (decls : List Decl) (others text pools rest : List ℕ) (pool : ℕ) (behind : List ℕ) → AreNamesTaken decls others text pools rest → IsPoolNext decls rest pool behind → is_over others pools pool ≡ true → (all more : List ℕ) → AreNamesNext decls others text all more → ⊥
+no_names decls others text pools rest pool behind h next over all more q =
+    let g = go_on decls text pools rest all more h.next q.next q.last in
     elim g.0 as (λ left. all ≡ pools ++ left → ArePoolsNext decls rest left more → ⊥) [
       | [] ↦ λ e none. q.last pool behind (subst (λ (t : List ℕ). IsPoolNext decls t pool behind) none next)
       | (p ∷ left) ↦ λ e of.
-          let same = one_pool decls rest behind of.0 pool p named next of.1 in
+          let same = one_pool decls rest behind of.0 pool p next of.1 in
           let whole : all ≡ pools ++ pool ∷ left = e ∙ ap (λ (k : ℕ). pools ++ k ∷ left) (sym same.0) in
           is_too_many others pools left pool over (subst (λ (l : List ℕ). length others + length l ≤ 16) whole q.few) (subst (λ (l : List ℕ). AreNamedOnce (others ++ l)) whole q.once)
     ] g.1 g.2
@@ -146,12 +145,12 @@ shorter decls text pool rest next = omega (arith, ap length next.whole, length-a
 -- ---- up to the end of a line
 
 -- names, but not up to the end of a line
-pub no_line_end : (decls : List Decl) (others text pools rest : List ℕ) → AreNamedDecls decls → AreNamesNext decls others text pools rest → ((more : List ℕ) → rest ≢ codes "\n" ++ more) → (all more : List ℕ) → AreNamesLast decls others text all more → ⊥
-no_line_end decls others text pools rest named first none all more q = none more (one_names decls others text pools rest all (10 ∷ more) named first q.names).1
+pub no_line_end : (decls : List Decl) (others text pools rest : List ℕ) → AreNamesNext decls others text pools rest → ((more : List ℕ) → rest ≢ codes "\n" ++ more) → (all more : List ℕ) → AreNamesLast decls others text all more → ⊥
+no_line_end decls others text pools rest first none all more q = none more (one_names decls others text pools rest all (10 ∷ more) first q.names).1
 
 -- no name at all
-pub no_first_name : (decls : List Decl) (others text pools rest : List ℕ) → AreNamedDecls decls → AreNamesNext decls others text pools rest → length pools ≡ 0 → (all more : List ℕ) → AreNamesNext decls others text all more → 0 < length all → ⊥
-no_first_name decls others text pools rest named first empty all more q some = omega (arith, ap length (one_names decls others text pools rest all more named first q).0)
+pub no_first_name : (decls : List Decl) (others text pools rest : List ℕ) → AreNamesNext decls others text pools rest → length pools ≡ 0 → (all more : List ℕ) → AreNamesNext decls others text all more → 0 < length all → ⊥
+no_first_name decls others text pools rest first empty all more q some = omega (arith, ap length (one_names decls others text pools rest all more first q).0)
 
 -- ---- names as text
 
@@ -160,17 +159,17 @@ names_end decls [] rest ended = ended
 names_end decls (pool ∷ pools) rest ended = refl
 
 -- names that a text spells stand one after another at its front
-pub pools_of_text : (decls : List Decl) (text pools rest : List ℕ) → All (λ pool. pool < length decls) pools → EndsName rest → text ≡ names_text decls pools ++ rest → ArePoolsNext decls text pools rest
-pools_of_text decls text [] rest declared ended e = e
-pools_of_text decls text (pool ∷ pools) rest declared ended e =
+pub pools_of_text : (decls : List Decl) (text pools rest : List ℕ) → All (IsCalled decls) pools → EndsName rest → text ≡ names_text decls pools ++ rest → ArePoolsNext decls text pools rest
+pools_of_text decls text [] rest called ended e = e
+pools_of_text decls text (pool ∷ pools) rest called ended e =
     let behind = names_text decls pools ++ rest in (
       behind,
       record {
-        declared = All-head (λ pool. pool < length decls) pool pools declared;
+        called = All-head (IsCalled decls) pool pools called;
         whole = e ∙ append_assoc (32 ∷ name_at decls pool) (names_text decls pools) rest;
         ended = names_end decls pools rest ended;
       },
-      pools_of_text decls behind pools rest (All-tail (λ pool. pool < length decls) pool pools declared) ended refl,
+      pools_of_text decls behind pools rest (All-tail (IsCalled decls) pool pools called) ended refl,
     )
 
 pub pools_spelled : (decls : List Decl) (text pools rest : List ℕ) → ArePoolsNext decls text pools rest → text ≡ names_text decls pools ++ rest
@@ -179,9 +178,9 @@ pools_spelled decls text (pool ∷ pools) rest h =
     h.1.whole ∙ ap (λ (t : List ℕ). 32 ∷ (name_at decls pool ++ t)) (pools_spelled decls h.0 pools rest h.2)
     ∙ sym (append_assoc (32 ∷ name_at decls pool) (names_text decls pools) rest)
 
-pub pools_declared : (decls : List Decl) (text pools rest : List ℕ) → ArePoolsNext decls text pools rest → All (λ pool. pool < length decls) pools
-pools_declared decls text [] rest e = All-nil (λ pool. pool < length decls)
-pools_declared decls text (pool ∷ pools) rest h = All-cons (λ pool. pool < length decls) pool pools h.1.declared (pools_declared decls h.0 pools rest h.2)
+pub pools_called : (decls : List Decl) (text pools rest : List ℕ) → ArePoolsNext decls text pools rest → All (IsCalled decls) pools
+pools_called decls text [] rest e = All-nil (IsCalled decls)
+pools_called decls text (pool ∷ pools) rest h = All-cons (IsCalled decls) pool pools h.1.called (pools_called decls h.0 pools rest h.2)
 
 -- no name stands at a line's end
 pub end_is_no_name : (decls : List Decl) (rest : List ℕ) (pool : ℕ) (more : List ℕ) → IsPoolNext decls (10 ∷ rest) pool more → ⊥
@@ -193,7 +192,7 @@ pub leaves_nothing : (decls : List Decl) (others text pools rest : List ℕ) →
 leaves_nothing decls others text pools rest once few spelled none =
     subst (λ (ps : List ℕ). IsWithoutLast decls others text ps rest) (sym none)
     (record {
-      declared = All-nil (λ pool. pool < length decls);
+      called = All-nil (IsCalled decls);
       once = subst AreNamedOnce (sym (append-nil others)) once;
       few = omega arith;
       whole = spelled;
@@ -202,7 +201,7 @@ leaves_nothing decls others text pools rest once few spelled none =
 pub leaves_names : (decls : List Decl) (others text behind pools rest : List ℕ) → text ≡ codes " not" ++ behind → AreNamesLast decls others behind pools rest → IsWithoutLast decls others text pools rest
 leaves_names decls others text behind [] rest spelled last = absurd (omega (arith, last.some))
 leaves_names decls others text behind (pool ∷ pools) rest spelled last = record {
-  declared = pools_declared decls behind (pool ∷ pools) (10 ∷ rest) last.names.next;
+  called = pools_called decls behind (pool ∷ pools) (10 ∷ rest) last.names.next;
   once = last.names.once;
   few = last.names.few;
   whole = spelled ∙ ap (λ (t : List ℕ). codes " not" ++ t) (pools_spelled decls behind (pool ∷ pools) (10 ∷ rest) last.names.next);
@@ -213,7 +212,7 @@ no_left_out decls others text behind no_end spelled none [] rest h = no_end rest
 no_left_out decls others text behind no_end spelled none (pool ∷ pools) rest h =
     none (pool ∷ pools) rest (record {
       names = record {
-        next = pools_of_text decls behind (pool ∷ pools) (10 ∷ rest) h.declared refl (ap (drop 4) (sym spelled ∙ h.whole));
+        next = pools_of_text decls behind (pool ∷ pools) (10 ∷ rest) h.called refl (ap (drop 4) (sym spelled ∙ h.whole));
         once = h.once;
         few = h.few;
         last = end_is_no_name decls rest;

@@ -1,9 +1,9 @@
 -- A text begins with one line of a script at most.
 use Rattle.std.proofs.Common.{◌≡◌, inl, ℕ, zero, suc, ◌<◌, Some, slice_get, List, [], ◌∷◌, ◌++◌, drop, get_or, length, refl, sym, ap, subst, ◌∙◌, arith, ℤ}
+use Rattle.std.specs.List.{AllByRecursion}
 use Rattle.std.specs.Option.{option_map_or}
 use Rattle.std.specs.Prelude.{true}
 use Rattle.std.proofs.lemmas.List.{append-nil}
-use Rattle.std.proofs.lemmas.Option.{same_Some}
 use Rattle.entity_id.specs.declared.entity.Profile.{Profile}
 use Rattle.entity_id.specs.declared.entity.Entity.{Entity}
 use Rattle.entity_id.specs.Identifiers.{HasLimits}
@@ -15,28 +15,27 @@ use Rattle.world_model.specs.declared.component.Kind.{Kind}
 use Rattle.world_model.specs.declared.component.Row.{Row}
 use Rattle.world_model.specs.declared.event.EventKind.{EventKind}
 use Rattle.world_model.specs.declared.event.EventKind.TheVariants as event
-use Rattle.world_model.specs.Components.{fits, fits_kind}
+use Rattle.world_model.specs.Components.{IsDecl, fits, fits_kind}
 use Rattle.world_model.specs.Conditions.{MaySet}
 use Rattle.world_text.specs.declared.script.ScriptLine.{ScriptLine}
 use Rattle.world_text.specs.declared.script.ScriptLine.TheVariants.{Run, Watch, Unwatch}
 use Rattle.world_text.specs.declared.verbs.Verb.{Verb}
 use Rattle.world_text.specs.declared.verbs.Verb.TheVariants as verb
-use Rattle.world_text.specs.Documents.{AreNamedDecls, value_in, values_in}
-use Rattle.world_text.specs.Lines.{values_text}
+use Rattle.world_text.specs.Documents.{value_in, values_in}
+use Rattle.world_text.specs.Lines.{IsValue, value_text, values_text}
 use Rattle.world_text.specs.Meaning.{row_of, field_of_value}
-use Rattle.world_text.specs.Reading.{IsValueFirst}
-use Rattle.world_text.specs.Scripts.{row_text, field_text, field_value_text, kind_at, name_at, names_text, event_word, IsLineFirst}
-use Rattle.world_text.specs.ScriptReading.{AreNamesNext, IsKeptAs, IsEntityNext, IsRowLast, IsFieldLast, AreEntityNames, IsViewLast, IsWithoutLast, IsWatchLast, IsLineBehind}
+use Rattle.world_text.specs.Scripts.{row_text, field_text, field_value_text, name_at, names_text, event_word, IsLineFirst}
+use Rattle.world_text.specs.ScriptReading.{AreNamesNext, HasFewFields, IsKeptAs, IsEntityNext, IsRowLast, IsFieldLast, AreEntityNames, IsViewLast, IsWithoutLast, IsWatchLast, IsLineBehind}
 use Rattle.world_text.specs.Verbs.{word_of, entity_command, entry_command, row_command, names_command}
 use Rattle.world_text.proofs.KeptLemmas.{one_kept}
-use Rattle.world_text.proofs.LinePartLemmas.{one_entity, one_entry, one_field}
+use Rattle.world_text.proofs.FieldLemmas.{few_fields, one_field, one_field_text}
+use Rattle.world_text.proofs.LinePartLemmas.{one_entity, one_entry}
 use Rattle.world_text.proofs.NameLemmas.{IsFree, one_pool, same_name_split}
 use Rattle.world_text.proofs.NameListLemmas.{one_names, pools_of_text, go_on, none_left, end_is_no_name}
-use Rattle.world_text.proofs.PrintedValues.{row_kept, row_spelled, field_kept}
+use Rattle.world_text.proofs.PrintedValues.{few_kinds, row_kept, row_spelled, field_kept}
 use Rattle.world_text.proofs.RowCommandLemmas.{decl_at, row_text_at, field_parts}
 use Rattle.world_text.proofs.SplitLineLemmas.{split_line, same_verb, word_free}
-use Rattle.world_text.proofs.TakingLemmas.{same_first}
-use Rattle.world_text.proofs.ValueLemmas.{values_lack, same_values}
+use Rattle.world_text.proofs.ValueLemmas.{value_lacks, values_lack, same_value, same_values}
 
 -- ---- rows
 
@@ -52,11 +51,14 @@ there (d ∷ decls) (suc pool) within = let h = there decls pool (omega arith) i
 fits_at : (profile : Profile) (decls : List Decl) (pool : ℕ) (decl : Decl) (row : Row) → slice_get decls pool ≡ Some decl → MaySet profile decls pool row → fits profile decl row ≡ true
 fits_at profile decls pool decl row at may_set = sym (ap (λ d. option_map_or (λ (decl : Decl). fits profile decl row) d true) at) ∙ may_set.fit
 
-same_row : (profile : Profile) (decls : List Decl) (pool : ℕ) (a b : Row) (x y : List ℕ) → HasLimits profile → AreNamedDecls decls → pool < length decls → MaySet profile decls pool a → MaySet profile decls pool b → row_text profile decls pool a ++ 10 ∷ x ≡ row_text profile decls pool b ++ 10 ∷ y → (a ≡ b) × (x ≡ y)
-same_row profile decls pool a b x y limits named declared may_a may_b e =
+-- the components are as they are to be
+abbrev pub AreDecls : List Decl → Type 0
+AreDecls decls = AllByRecursion IsDecl decls
+
+same_row : (profile : Profile) (decls : List Decl) (pool : ℕ) (a b : Row) (x y : List ℕ) → HasLimits profile → pool < length decls → MaySet profile decls pool a → MaySet profile decls pool b → row_text profile decls pool a ++ 10 ∷ x ≡ row_text profile decls pool b ++ 10 ∷ y → (x ≡ y) × (AreDecls decls → a ≡ b)
+same_row profile decls pool a b x y limits declared may_a may_b e =
     let found = there decls pool declared in
     let decl = found.decl in
-    let is_decl = decl_at decls pool decl named.each found.at in
     let fit_a = fits_at profile decls pool decl a found.at may_a in
     let fit_b = fits_at profile decls pool decl b found.at may_b in
     let spelled_a = row_spelled profile decl a may_a.wide fit_a in
@@ -64,59 +66,74 @@ same_row profile decls pool a b x y limits named declared may_a may_b e =
     let texts : values_text profile (values_in profile decl a) ++ 10 ∷ x ≡ values_text profile (values_in profile decl b) ++ 10 ∷ y =
     ap (λ (t : List ℕ). t ++ 10 ∷ x) (sym (row_text_at profile decls pool decl a found.at)) ∙ e ∙ ap (λ (t : List ℕ). t ++ 10 ∷ y) (row_text_at profile decls pool decl b found.at) in
     let cut = same_cut 10 (values_text profile (values_in profile decl a)) (values_text profile (values_in profile decl b)) x y (values_lack profile (values_in profile decl a) limits spelled_a) (values_lack profile (values_in profile decl b) limits spelled_b) texts in
-    let values = same_values profile (values_in profile decl a) (values_in profile decl b) limits spelled_a spelled_b cut.0 in
-    (sym (row_kept profile decl a is_decl may_a.wide fit_a) ∙ ap (row_of profile) values ∙ row_kept profile decl b is_decl may_b.wide fit_b, cut.1)
+    let values = same_values profile (values_in profile decl a) (values_in profile decl b) limits spelled_a spelled_b cut.0 in (
+      cut.1,
+      λ each.
+          let is_decl = decl_at decls pool decl each found.at in
+          sym (row_kept profile decl a is_decl may_a.wide fit_a) ∙ ap (row_of profile) values ∙ row_kept profile decl b is_decl may_b.wide fit_b,
+    )
 
-one_row : (profile : Profile) (decls : List Decl) (text x y : List ℕ) (e f : Entity) (a b : ℕ) (r s : Row) → HasLimits profile → AreNamedDecls decls → IsRowLast profile decls text e a r x → IsRowLast profile decls text f b s y → (e ≡ f) × (a ≡ b) × (r ≡ s) × (x ≡ y)
-one_row profile decls text x y e f a b r s limits named p q =
-    let entry = one_entry profile decls text (row_text profile decls a r ++ 10 ∷ x) (row_text profile decls b s ++ 10 ∷ y) e f a b limits named p.entry q.entry in
+one_row : (profile : Profile) (decls : List Decl) (text x y : List ℕ) (e f : Entity) (a b : ℕ) (r s : Row) → HasLimits profile → IsRowLast profile decls text e a r x → IsRowLast profile decls text f b s y → (e ≡ f) × (a ≡ b) × (x ≡ y) × (AreDecls decls → r ≡ s)
+one_row profile decls text x y e f a b r s limits p q =
+    let entry = one_entry profile decls text (row_text profile decls a r ++ 10 ∷ x) (row_text profile decls b s ++ 10 ∷ y) e f a b limits p.entry q.entry in
     let may_s : MaySet profile decls a s = subst (λ (n : ℕ). MaySet profile decls n s) (sym entry.1) q.may_set in
-    let row = same_row profile decls a r s x y limits named p.entry.is.declared p.may_set may_s (entry.2 ∙ ap (λ (n : ℕ). row_text profile decls n s ++ 10 ∷ y) (sym entry.1)) in
+    let row = same_row profile decls a r s x y limits p.entry.is.called.declared p.may_set may_s (entry.2 ∙ ap (λ (n : ℕ). row_text profile decls n s ++ 10 ∷ y) (sym entry.1)) in
     (entry.0, entry.1, row.0, row.1)
 
 -- ---- fields
 
-one_value : (profile : Profile) (decls : List Decl) (text x y : List ℕ) (e f : Entity) (a b m n : ℕ) (v w : ℤ) → HasLimits profile → AreNamedDecls decls → IsFieldLast profile decls text e a m v x → IsFieldLast profile decls text f b n w y → (e ≡ f) × (a ≡ b) × (m ≡ n) × (v ≡ w) × (x ≡ y)
-one_value profile decls text x y e f a b m n v w limits named p q =
+-- components that are as they are to be have few fields
+few_in : (decls : List Decl) (pool : ℕ) → AreDecls decls → pool < length decls → HasFewFields decls pool
+few_in decls pool each declared =
+    let found = there decls pool declared in
+    few_fields decls pool found.decl found.at (few_kinds found.decl (decl_at decls pool found.decl each found.at))
+
+one_value : (profile : Profile) (decls : List Decl) (text x y : List ℕ) (e f : Entity) (a b m n : ℕ) (v w : ℤ) → HasLimits profile → IsFieldLast profile decls text e a m v x → IsFieldLast profile decls text f b n w y → (e ≡ f) × (a ≡ b) × (x ≡ y) × (AreDecls decls → (m ≡ n) × (v ≡ w))
+one_value profile decls text x y e f a b m n v w limits p q =
     let behind = 32 ∷ (field_text decls a m ++ 32 ∷ (field_value_text profile decls a m v ++ 10 ∷ x)) in
     let first : IsEntityNext profile text e behind = record { of_profile = p.is.of_profile; whole = p.whole; ended = inl (omega arith) } in
     let entity = one_entity profile text behind (32 ∷ (field_text decls b n ++ 32 ∷ (field_value_text profile decls b n w ++ 10 ∷ y))) e f limits first (record { of_profile = q.is.of_profile; whole = q.whole; ended = inl (omega arith) }) in
     let here = field_parts profile decls text behind e e a m v x limits first p in
     let other = field_parts profile decls text behind e f b n w y limits first q in
-    let field = one_field decls behind here.valued other.valued a b m n named here.next other.next in
-    let kinds : other.k ≡ here.k = same_Some other.k here.k (sym other.at ∙ (λ i. kind_at decls (sym field.0 i) (sym field.1 i)) ∙ here.at) in
-    let its : IsValueFirst profile here.k here.valued (value_in profile here.k w) (10 ∷ y) =
-    subst (λ (t : List ℕ). IsValueFirst profile here.k t (value_in profile here.k w) (10 ∷ y)) (sym field.2)
-    (subst (λ (k : Kind). IsValueFirst profile k other.valued (value_in profile k w) (10 ∷ y)) kinds other.first) in
-    let value = same_first profile here.k (value_in profile here.k v) (value_in profile here.k w) (10 ∷ x) (10 ∷ y) limits here.first.is its.is here.first.of_kind its.of_kind here.first.ended its.ended (ap (drop 1) (sym here.first.whole ∙ its.whole)) in
-    let kept_v = field_kept profile here.k v p.may_set.wide here.passes in
-    let kept_w = field_kept profile here.k w q.may_set.wide (subst (λ (k : Kind). fits_kind profile k w ≡ true) kinds other.passes) in
-    (entity.0, field.0, field.1, sym kept_v ∙ ap (field_of_value profile) value.0 ∙ kept_w, ap (drop 1) value.1)
+    let texts = one_field_text decls behind here.valued other.valued a b m n here.k other.k here.next other.next in
+    let lack_v = value_lacks profile (value_in profile here.k v) 10 limits here.first.is (omega arith) in
+    let lack_w = value_lacks profile (value_in profile other.k w) 10 limits other.first.is (omega arith) in
+    let cut = same_cut 10 (value_text profile (value_in profile here.k v)) (value_text profile (value_in profile other.k w)) x y lack_v lack_w (ap (drop 1) (sym here.first.whole ∙ texts.2 ∙ other.first.whole)) in (
+      entity.0,
+      texts.0,
+      cut.1,
+      λ each.
+          let field = one_field decls behind here.valued other.valued a b m n here.k other.k (few_in decls a each p.is.called.declared) here.next other.next in
+          let passes : fits_kind profile here.k w ≡ true = subst (λ (k : Kind). fits_kind profile k w ≡ true) (sym field.2) other.passes in
+          let is_w : IsValue profile (value_in profile here.k w) = subst (λ (k : Kind). IsValue profile (value_in profile k w)) (sym field.2) other.first.is in
+          let value = same_value profile (value_in profile here.k v) (value_in profile here.k w) limits here.first.is is_w (cut.0 ∙ ap (λ (k : Kind). value_text profile (value_in profile k w)) (sym field.2)) in
+          (field.1, sym (field_kept profile here.k v p.may_set.wide here.passes) ∙ ap (field_of_value profile) value ∙ field_kept profile here.k w q.may_set.wide passes),
+    )
 
 -- ---- lists
 
-one_without : (decls : List Decl) (others text x y a b : List ℕ) → AreNamedDecls decls → IsWithoutLast decls others text a x → IsWithoutLast decls others text b y → (a ≡ b) × (x ≡ y)
-one_without decls others text x y [] [] named p q = (refl, ap (drop 1) (sym p.whole ∙ q.whole))
-one_without decls others text x y [] (k ∷ b) named p q = absurd (omega (arith, ap (λ (t : List ℕ). get_or t 0 0) (sym p.whole ∙ q.whole)))
-one_without decls others text x y (k ∷ a) [] named p q = absurd (omega (arith, ap (λ (t : List ℕ). get_or t 0 0) (sym p.whole ∙ q.whole)))
-one_without decls others text x y (j ∷ a) (k ∷ b) named p q =
+one_without : (decls : List Decl) (others text x y a b : List ℕ) → IsWithoutLast decls others text a x → IsWithoutLast decls others text b y → (a ≡ b) × (x ≡ y)
+one_without decls others text x y [] [] p q = (refl, ap (drop 1) (sym p.whole ∙ q.whole))
+one_without decls others text x y [] (k ∷ b) p q = absurd (omega (arith, ap (λ (t : List ℕ). get_or t 0 0) (sym p.whole ∙ q.whole)))
+one_without decls others text x y (k ∷ a) [] p q = absurd (omega (arith, ap (λ (t : List ℕ). get_or t 0 0) (sym p.whole ∙ q.whole)))
+one_without decls others text x y (j ∷ a) (k ∷ b) p q =
     let behind = names_text decls (j ∷ a) ++ 10 ∷ x in
-    let next = pools_of_text decls behind (j ∷ a) (10 ∷ x) p.declared refl refl in
-    let other = pools_of_text decls behind (k ∷ b) (10 ∷ y) q.declared refl (ap (drop 4) (sym p.whole ∙ q.whole)) in
-    let on = go_on decls behind (j ∷ a) (10 ∷ x) (k ∷ b) (10 ∷ y) named next other (end_is_no_name decls y) in
+    let next = pools_of_text decls behind (j ∷ a) (10 ∷ x) p.called refl refl in
+    let other = pools_of_text decls behind (k ∷ b) (10 ∷ y) q.called refl (ap (drop 4) (sym p.whole ∙ q.whole)) in
+    let on = go_on decls behind (j ∷ a) (10 ∷ x) (k ∷ b) (10 ∷ y) next other (end_is_no_name decls y) in
     let none = none_left decls (10 ∷ x) on.0 (10 ∷ y) on.2 (end_is_no_name decls x) in
     (sym (on.1 ∙ ap (λ (left : List ℕ). (j ∷ a) ++ left) none.0 ∙ append-nil (j ∷ a)), ap (drop 1) none.1)
 
-one_entity_names : (profile : Profile) (decls : List Decl) (text x y : List ℕ) (e f : Entity) (a b : List ℕ) → HasLimits profile → AreNamedDecls decls → AreEntityNames profile decls text e a x → AreEntityNames profile decls text f b y → (e ≡ f) × (a ≡ b) × (x ≡ y)
-one_entity_names profile decls text x y e f a b limits named p q =
+one_entity_names : (profile : Profile) (decls : List Decl) (text x y : List ℕ) (e f : Entity) (a b : List ℕ) → HasLimits profile → AreEntityNames profile decls text e a x → AreEntityNames profile decls text f b y → (e ≡ f) × (a ≡ b) × (x ≡ y)
+one_entity_names profile decls text x y e f a b limits p q =
     let entity = one_entity profile text p.behind q.behind e f limits p.first q.first in
-    let names = one_names decls [] p.behind p.order (10 ∷ x) q.order (10 ∷ y) named p.names.names (subst (λ (t : List ℕ). AreNamesNext decls [] t q.order (10 ∷ y)) (sym entity.1) q.names.names) in
+    let names = one_names decls [] p.behind p.order (10 ∷ x) q.order (10 ∷ y) p.names.names (subst (λ (t : List ℕ). AreNamesNext decls [] t q.order (10 ∷ y)) (sym entity.1) q.names.names) in
     (entity.0, one_kept p.order a b p.kept (subst (λ (o : List ℕ). IsKeptAs o b) (sym names.0) q.kept), ap (drop 1) names.1)
 
-one_view : (decls : List Decl) (text x y : List ℕ) (a b u v : List ℕ) → AreNamedDecls decls → IsViewLast decls text a u x → IsViewLast decls text b v y → (a ≡ b) × (u ≡ v) × (x ≡ y)
-one_view decls text x y a b u v named p q =
-    let names = one_names decls [] text p.order p.behind q.order q.behind named p.names q.names in
-    let out = one_without decls p.order p.behind x y p.excluded q.excluded named p.out
+one_view : (decls : List Decl) (text x y : List ℕ) (a b u v : List ℕ) → IsViewLast decls text a u x → IsViewLast decls text b v y → (a ≡ b) × (u ≡ v) × (x ≡ y)
+one_view decls text x y a b u v p q =
+    let names = one_names decls [] text p.order p.behind q.order q.behind p.names q.names in
+    let out = one_without decls p.order p.behind x y p.excluded q.excluded p.out
     (subst (λ (t : List ℕ). IsWithoutLast decls p.order t q.excluded y) (sym names.1) (subst (λ (o : List ℕ). IsWithoutLast decls o q.behind q.excluded y) (sym names.0) q.out)) in
     (one_kept p.order a b p.kept (subst (λ (o : List ℕ). IsKeptAs o b) (sym names.0) q.kept), one_kept p.excluded u v p.kept_out (subst (λ (o : List ℕ). IsKeptAs o v) (sym out.0) q.kept_out), out.1)
 
@@ -138,51 +155,51 @@ same_event event.Update event.Destroy e = absurd (omega (arith, ap (λ (t : List
 same_event event.Destroy event.Construct e = absurd (omega (arith, ap (λ (t : List ℕ). get_or t 0 0) e))
 same_event event.Destroy event.Update e = absurd (omega (arith, ap (λ (t : List ℕ). get_or t 0 0) e))
 
-one_watch : (decls : List Decl) (text x y : List ℕ) (k l : EventKind) (a b : ℕ) → AreNamedDecls decls → IsWatchLast decls text k a x → IsWatchLast decls text l b y → (k ≡ l) × (a ≡ b) × (x ≡ y)
-one_watch decls text x y k l a b named p q =
+one_watch : (decls : List Decl) (text x y : List ℕ) (k l : EventKind) (a b : ℕ) → IsWatchLast decls text k a x → IsWatchLast decls text l b y → (k ≡ l) × (a ≡ b) × (x ≡ y)
+one_watch decls text x y k l a b p q =
     let behind = 32 ∷ (name_at decls a ++ 10 ∷ x) in
     let kinds = same_name_split (event_word k) (event_word l) behind (32 ∷ (name_at decls b ++ 10 ∷ y)) (event_free k) (event_free l) refl refl (ap (drop 1) (sym p.whole ∙ q.whole)) in
-    let pool = one_pool decls behind (10 ∷ x) (10 ∷ y) a b named (record { declared = p.declared; whole = refl; ended = refl }) (record { declared = q.declared; whole = kinds.1; ended = refl }) in
+    let pool = one_pool decls behind (10 ∷ x) (10 ∷ y) a b (record { called = p.called; whole = refl; ended = refl }) (record { called = q.called; whole = kinds.1; ended = refl }) in
     (same_event k l kinds.0, pool.0, ap (drop 1) pool.1)
 
 -- ---- lines
 
 -- one line goes on behind one word
-one_behind : (profile : Profile) (decls : List Decl) (v : Verb) (text x y : List ℕ) (a b : ScriptLine) → HasLimits profile → AreNamedDecls decls → IsLineBehind profile decls v text a x → IsLineBehind profile decls v text b y → (a ≡ b) × (x ≡ y)
-one_behind profile decls (verb.Plain of) text x y a b limits named p q = (p.1 ∙ sym q.1, ap (drop 1) (sym p.0 ∙ q.0))
-one_behind profile decls (verb.OfEntity of) text x y a b limits named p q =
+one_behind : (profile : Profile) (decls : List Decl) (v : Verb) (text x y : List ℕ) (a b : ScriptLine) → HasLimits profile → IsLineBehind profile decls v text a x → IsLineBehind profile decls v text b y → (x ≡ y) × (AreDecls decls → a ≡ b)
+one_behind profile decls (verb.Plain of) text x y a b limits p q = (ap (drop 1) (sym p.0 ∙ q.0), λ _. p.1 ∙ sym q.1)
+one_behind profile decls (verb.OfEntity of) text x y a b limits p q =
     let same = one_entity profile text (10 ∷ x) (10 ∷ y) p.0 q.0 limits p.1 q.1 in
-    (p.2 ∙ ap (λ (e : Entity). Run (entity_command of e)) same.0 ∙ sym q.2, ap (drop 1) same.1)
-one_behind profile decls (verb.OfEntry of) text x y a b limits named p q =
-    let same = one_entry profile decls text (10 ∷ x) (10 ∷ y) p.0 q.0 p.1 q.1 limits named p.2 q.2 in
-    (p.3 ∙ (λ i. Run (entry_command of (same.0 i) (same.1 i))) ∙ sym q.3, ap (drop 1) same.2)
-one_behind profile decls (verb.OfRow of) text x y a b limits named p q =
-    let same = one_row profile decls text x y p.0 q.0 p.1 q.1 p.2 q.2 limits named p.3 q.3 in
-    (p.4 ∙ (λ i. Run (row_command of (same.0 i) (same.1 i) (same.2 i))) ∙ sym q.4, same.3)
-one_behind profile decls (verb.OfNames of) text x y a b limits named p q =
-    let same = one_entity_names profile decls text x y p.0 q.0 p.1 q.1 limits named p.2 q.2 in
-    (p.3 ∙ (λ i. Run (names_command of (same.0 i) (same.1 i))) ∙ sym q.3, same.2)
-one_behind profile decls verb.Patch text x y a b limits named p q =
-    let same = one_value profile decls text x y p.0 q.0 p.1 q.1 p.2 q.2 p.3 q.3 limits named p.4 q.4 in
-    (p.5 ∙ (λ i. Run (command.Patch (same.0 i) (same.1 i) (same.2 i) (same.3 i))) ∙ sym q.5, same.4)
-one_behind profile decls verb.Clear text x y a b limits named p q =
-    let same = one_pool decls text (10 ∷ x) (10 ∷ y) p.0 q.0 named p.1 q.1 in
-    (p.2 ∙ ap (λ (pool : ℕ). Run (command.Clear pool)) same.0 ∙ sym q.2, ap (drop 1) same.1)
-one_behind profile decls verb.View text x y a b limits named p q =
-    let same = one_view decls text x y p.0 q.0 p.1 q.1 named p.2 q.2 in
-    (p.3 ∙ (λ i. Run (command.View (same.0 i) (same.1 i))) ∙ sym q.3, same.2)
-one_behind profile decls verb.Watch text x y a b limits named p q =
-    let same = one_watch decls text x y p.0 q.0 p.1 q.1 named p.2 q.2 in
-    (p.3 ∙ (λ i. Watch (same.0 i) (same.1 i)) ∙ sym q.3, same.2)
-one_behind profile decls verb.Unwatch text x y a b limits named p q =
+    (ap (drop 1) same.1, λ _. p.2 ∙ ap (λ (e : Entity). Run (entity_command of e)) same.0 ∙ sym q.2)
+one_behind profile decls (verb.OfEntry of) text x y a b limits p q =
+    let same = one_entry profile decls text (10 ∷ x) (10 ∷ y) p.0 q.0 p.1 q.1 limits p.2 q.2 in
+    (ap (drop 1) same.2, λ _. p.3 ∙ (λ i. Run (entry_command of (same.0 i) (same.1 i))) ∙ sym q.3)
+one_behind profile decls (verb.OfRow of) text x y a b limits p q =
+    let same = one_row profile decls text x y p.0 q.0 p.1 q.1 p.2 q.2 limits p.3 q.3 in
+    (same.2, λ each. let row = same.3 each in p.4 ∙ (λ i. Run (row_command of (same.0 i) (same.1 i) (row i))) ∙ sym q.4)
+one_behind profile decls (verb.OfNames of) text x y a b limits p q =
+    let same = one_entity_names profile decls text x y p.0 q.0 p.1 q.1 limits p.2 q.2 in
+    (same.2, λ _. p.3 ∙ (λ i. Run (names_command of (same.0 i) (same.1 i))) ∙ sym q.3)
+one_behind profile decls verb.Patch text x y a b limits p q =
+    let same = one_value profile decls text x y p.0 q.0 p.1 q.1 p.2 q.2 p.3 q.3 limits p.4 q.4 in
+    (same.2, λ each. let field = same.3 each in p.5 ∙ (λ i. Run (command.Patch (same.0 i) (same.1 i) (field.0 i) (field.1 i))) ∙ sym q.5)
+one_behind profile decls verb.Clear text x y a b limits p q =
+    let same = one_pool decls text (10 ∷ x) (10 ∷ y) p.0 q.0 p.1 q.1 in
+    (ap (drop 1) same.1, λ _. p.2 ∙ ap (λ (pool : ℕ). Run (command.Clear pool)) same.0 ∙ sym q.2)
+one_behind profile decls verb.View text x y a b limits p q =
+    let same = one_view decls text x y p.0 q.0 p.1 q.1 p.2 q.2 in
+    (same.2, λ _. p.3 ∙ (λ i. Run (command.View (same.0 i) (same.1 i))) ∙ sym q.3)
+one_behind profile decls verb.Watch text x y a b limits p q =
+    let same = one_watch decls text x y p.0 q.0 p.1 q.1 p.2 q.2 in
+    (same.2, λ _. p.3 ∙ (λ i. Watch (same.0 i) (same.1 i)) ∙ sym q.3)
+one_behind profile decls verb.Unwatch text x y a b limits p q =
     let same = same_number p.0 q.0 (10 ∷ x) (10 ∷ y) (omega (arith, p.1.within)) (omega (arith, q.1.within)) (inl (omega arith)) (inl (omega arith)) (ap (drop 1) (sym p.1.whole ∙ q.1.whole)) in
-    (p.2 ∙ ap Unwatch same.0 ∙ sym q.2, ap (drop 1) same.1)
+    (ap (drop 1) same.1, λ _. p.2 ∙ ap Unwatch same.0 ∙ sym q.2)
 
 -- a text begins with one line
-pub one_line : (profile : Profile) (decls : List Decl) (text x y : List ℕ) (a b : ScriptLine) → HasLimits profile → AreNamedDecls decls → IsLineFirst profile decls text a x → IsLineFirst profile decls text b y → (a ≡ b) × (x ≡ y)
-one_line profile decls text x y a b limits named p q =
-    let one = split_line profile decls text a x named p in
-    let two = split_line profile decls text b y named q in
+pub one_line : (profile : Profile) (decls : List Decl) (text x y : List ℕ) (a b : ScriptLine) → HasLimits profile → IsLineFirst profile decls text a x → IsLineFirst profile decls text b y → (x ≡ y) × (AreDecls decls → a ≡ b)
+one_line profile decls text x y a b limits p q =
+    let one = split_line profile decls text a x p in
+    let two = split_line profile decls text b y q in
     let same = same_name_split (word_of one.v) (word_of two.v) one.behind two.behind (word_free one.v) (word_free two.v) one.ended two.ended (sym one.whole ∙ two.whole) in
-    one_behind profile decls one.v one.behind x y a b limits named one.left
+    one_behind profile decls one.v one.behind x y a b limits one.left
     (subst (λ (t : List ℕ). IsLineBehind profile decls one.v t b y) (sym same.1) (subst (λ (v : Verb). IsLineBehind profile decls v two.behind b y) (sym (same_verb one.v two.v same.0)) two.left))

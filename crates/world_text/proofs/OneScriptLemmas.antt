@@ -16,12 +16,12 @@ use Rattle.world_text.specs.Formats.{IsFormat, version_1}
 use Rattle.world_text.specs.Lines.{text_of}
 use Rattle.world_text.specs.Meaning.{world_of}
 use Rattle.world_text.specs.Fitting.{fits, fit_after, last_section}
-use Rattle.world_text.specs.Documents.{AreNamedDecls, IsFrontOf, IsBadFrontOf}
+use Rattle.world_text.specs.Documents.{IsFrontOf, IsBadFrontOf}
 use Rattle.world_text.specs.Scripts.{IsScriptLine, IsLineWrittenAs, IsLineFirst, IsScript, IsBegun, IsBadScriptLine, IsScripted, IsBadBehind, IsBadScriptedLine, first_line, last_line, script_line_text}
 use Rattle.world_text.specs.Verbs.{word_of}
 use Rattle.world_text.proofs.LawfulLemmas.{front_is_lawful, version_1_is_format}
 use Rattle.world_text.proofs.NameLemmas.{same_name_split}
-use Rattle.world_text.proofs.OneLineLemmas.{one_line}
+use Rattle.world_text.proofs.OneLineLemmas.{AreDecls, one_line}
 use Rattle.world_text.proofs.ReadingLemmas.{fits_nowhere}
 use Rattle.world_text.proofs.SplitLineLemmas.{split_line, word_free, verb_in, said}
 use Rattle.world_text.proofs.UniqueLemmas.{one_goes_on, fits_next, not_past, one_number}
@@ -74,19 +74,19 @@ abbrev HasNoLine : Profile → List Decl → List ℕ → Type 0
 HasNoLine profile decls text = (line : ScriptLine) (rest : List ℕ) → IsLineFirst profile decls text line rest → ⊥
 
 -- lines up to where none stands are told apart by the text
-one_stuck : (profile : Profile) (decls : List Decl) (text : List ℕ) (a b : List ScriptLine) (x y : List ℕ) → HasLimits profile → AreNamedDecls decls → AreLinesNext profile decls text a x → AreLinesNext profile decls text b y → HasNoLine profile decls x → HasNoLine profile decls y → (a ≡ b) × (x ≡ y)
-one_stuck profile decls text [] [] x y limits named p q no_x no_y = (refl, sym p ∙ q)
-one_stuck profile decls text [] (m ∷ b) x y limits named p q no_x no_y = absurd (no_x m q.0 (subst (λ (t : List ℕ). IsLineFirst profile decls t m q.0) p q.1))
-one_stuck profile decls text (l ∷ a) [] x y limits named p q no_x no_y = absurd (no_y l p.0 (subst (λ (t : List ℕ). IsLineFirst profile decls t l p.0) q p.1))
-one_stuck profile decls text (l ∷ a) (m ∷ b) x y limits named p q no_x no_y =
-    let same = one_line profile decls text p.0 q.0 l m limits named p.1 q.1 in
-    let h = one_stuck profile decls p.0 a b x y limits named p.2 (subst (λ (t : List ℕ). AreLinesNext profile decls t b y) (sym same.1) q.2) no_x no_y in
-    (ap₂ (λ k ks. k ∷ ks) same.0 h.0, h.1)
+one_stuck : (profile : Profile) (decls : List Decl) (text : List ℕ) (a b : List ScriptLine) (x y : List ℕ) → HasLimits profile → AreDecls decls → AreLinesNext profile decls text a x → AreLinesNext profile decls text b y → HasNoLine profile decls x → HasNoLine profile decls y → (a ≡ b) × (x ≡ y)
+one_stuck profile decls text [] [] x y limits each p q no_x no_y = (refl, sym p ∙ q)
+one_stuck profile decls text [] (m ∷ b) x y limits each p q no_x no_y = absurd (no_x m q.0 (subst (λ (t : List ℕ). IsLineFirst profile decls t m q.0) p q.1))
+one_stuck profile decls text (l ∷ a) [] x y limits each p q no_x no_y = absurd (no_y l p.0 (subst (λ (t : List ℕ). IsLineFirst profile decls t l p.0) q p.1))
+one_stuck profile decls text (l ∷ a) (m ∷ b) x y limits each p q no_x no_y =
+    let same = one_line profile decls text p.0 q.0 l m limits p.1 q.1 in
+    let h = one_stuck profile decls p.0 a b x y limits each p.2 (subst (λ (t : List ℕ). AreLinesNext profile decls t b y) (sym same.0) q.2) no_x no_y in
+    (ap₂ (λ k ks. k ∷ ks) (same.1 each) h.0, h.1)
 
 -- the last line is none of these
-end_has_none : (profile : Profile) (decls : List Decl) (more : List ℕ) → AreNamedDecls decls → HasNoLine profile decls (last_line ++ more)
-end_has_none profile decls more named line rest h =
-    let s = split_line profile decls (last_line ++ more) line rest named h in
+end_has_none : (profile : Profile) (decls : List Decl) (more : List ℕ) → HasNoLine profile decls (last_line ++ more)
+end_has_none profile decls more line rest h =
+    let s = split_line profile decls (last_line ++ more) line rest h in
     let same = same_name_split (codes "end") (word_of s.v) (10 ∷ more) s.behind (refl, (refl, (refl, tt))) (word_free s.v) refl s.ended s.whole in
     none-some s.v (ap verb_in same.0 ∙ said s.v)
 
@@ -108,46 +108,46 @@ begun_first profile decls text lines rest h = (flat_map (script_line_text profil
 begun_of : (profile : Profile) (decls : List Decl) (text : List ℕ) (lines : List ScriptLine) → IsScript profile decls text lines → IsBegun profile decls text lines last_line
 begun_of profile decls text lines h = record { each = h.each; written = h.written; same = h.same; spelled = h.spelled }
 
-one_begun : (profile : Profile) (decls : List Decl) (text : List ℕ) (a b : List ScriptLine) (x y : List ℕ) → HasLimits profile → AreNamedDecls decls → IsBegun profile decls text a x → IsBegun profile decls text b y → HasNoLine profile decls x → HasNoLine profile decls y → (a ≡ b) × (x ≡ y)
-one_begun profile decls text a b x y limits named p q no_x no_y =
-    one_stuck profile decls (drop 7 text) a b x y limits named (begun_next profile decls text a x p) (begun_next profile decls text b y q) no_x no_y
+one_begun : (profile : Profile) (decls : List Decl) (text : List ℕ) (a b : List ScriptLine) (x y : List ℕ) → HasLimits profile → AreDecls decls → IsBegun profile decls text a x → IsBegun profile decls text b y → HasNoLine profile decls x → HasNoLine profile decls y → (a ≡ b) × (x ≡ y)
+one_begun profile decls text a b x y limits each p q no_x no_y =
+    one_stuck profile decls (drop 7 text) a b x y limits each (begun_next profile decls text a x p) (begun_next profile decls text b y q) no_x no_y
 
-one_lines : (profile : Profile) (decls : List Decl) (text : List ℕ) (a b : List ScriptLine) → HasLimits profile → AreNamedDecls decls → IsScript profile decls text a → IsScript profile decls text b → a ≡ b
-one_lines profile decls text a b limits named p q =
-    (one_begun profile decls text a b last_line last_line limits named (begun_of profile decls text a p) (begun_of profile decls text b q) (end_has_none profile decls [] named) (end_has_none profile decls [] named)).0
+one_lines : (profile : Profile) (decls : List Decl) (text : List ℕ) (a b : List ScriptLine) → HasLimits profile → AreDecls decls → IsScript profile decls text a → IsScript profile decls text b → a ≡ b
+one_lines profile decls text a b limits each p q =
+    (one_begun profile decls text a b last_line last_line limits each (begun_of profile decls text a p) (begun_of profile decls text b q) (end_has_none profile decls []) (end_has_none profile decls [])).0
 
-no_bad_script_line : (profile : Profile) (decls : List Decl) (text : List ℕ) (lines : List ScriptLine) (number : ℕ) → HasLimits profile → AreNamedDecls decls → IsScript profile decls text lines → IsBadScriptLine profile decls text number → ⊥
-no_bad_script_line profile decls text lines number limits named p bad =
+no_bad_script_line : (profile : Profile) (decls : List Decl) (text : List ℕ) (lines : List ScriptLine) (number : ℕ) → HasLimits profile → AreDecls decls → IsScript profile decls text lines → IsBadScriptLine profile decls text number → ⊥
+no_bad_script_line profile decls text lines number limits each p bad =
     let begun = begun_of profile decls text lines p in
-    let no_end = end_has_none profile decls [] named in
+    let no_end = end_has_none profile decls [] in
     elim bad as (λ _. ⊥) [
       | inl h ↦ (let first = begun_first profile decls text lines last_line begun in h.1 first.0 first.1)
       | inr (inl h) ↦
-          let same = one_begun profile decls text lines h.0 last_line h.1 limits named begun h.3.begun no_end h.3.no_line in
+          let same = one_begun profile decls text lines h.0 last_line h.1 limits each begun h.3.begun no_end h.3.no_line in
           h.3.no_end [] (sym same.1)
       | inr (inr h) ↦
-          let same = one_begun profile decls text lines h.0 last_line (last_line ++ h.1) limits named begun h.3.begun no_end (end_has_none profile decls h.1 named) in
+          let same = one_begun profile decls text lines h.0 last_line (last_line ++ h.1) limits each begun h.3.begun no_end (end_has_none profile decls h.1) in
           h.3.more (sym (append_cancel_left last_line [] h.1 same.1))
     ]
 
 -- a text that is no script has one bad line
-one_bad_script_line : (profile : Profile) (decls : List Decl) (text : List ℕ) (m n : ℕ) → HasLimits profile → AreNamedDecls decls → IsBadScriptLine profile decls text m → IsBadScriptLine profile decls text n → m ≡ n
-one_bad_script_line profile decls text m n limits named (inl p) (inl q) = p.0 ∙ sym q.0
-one_bad_script_line profile decls text m n limits named (inl p) (inr (inl q)) = absurd (let first = begun_first profile decls text q.0 q.1 q.3.begun in p.1 first.0 first.1)
-one_bad_script_line profile decls text m n limits named (inl p) (inr (inr q)) = absurd (let first = begun_first profile decls text q.0 (last_line ++ q.1) q.3.begun in p.1 first.0 first.1)
-one_bad_script_line profile decls text m n limits named (inr (inl p)) (inl q) = absurd (let first = begun_first profile decls text p.0 p.1 p.3.begun in q.1 first.0 first.1)
-one_bad_script_line profile decls text m n limits named (inr (inr p)) (inl q) = absurd (let first = begun_first profile decls text p.0 (last_line ++ p.1) p.3.begun in q.1 first.0 first.1)
-one_bad_script_line profile decls text m n limits named (inr (inl p)) (inr (inl q)) =
-    let same = one_begun profile decls text p.0 q.0 p.1 q.1 limits named p.3.begun q.3.begun p.3.no_line q.3.no_line in
+one_bad_script_line : (profile : Profile) (decls : List Decl) (text : List ℕ) (m n : ℕ) → HasLimits profile → AreDecls decls → IsBadScriptLine profile decls text m → IsBadScriptLine profile decls text n → m ≡ n
+one_bad_script_line profile decls text m n limits each (inl p) (inl q) = p.0 ∙ sym q.0
+one_bad_script_line profile decls text m n limits each (inl p) (inr (inl q)) = absurd (let first = begun_first profile decls text q.0 q.1 q.3.begun in p.1 first.0 first.1)
+one_bad_script_line profile decls text m n limits each (inl p) (inr (inr q)) = absurd (let first = begun_first profile decls text q.0 (last_line ++ q.1) q.3.begun in p.1 first.0 first.1)
+one_bad_script_line profile decls text m n limits each (inr (inl p)) (inl q) = absurd (let first = begun_first profile decls text p.0 p.1 p.3.begun in q.1 first.0 first.1)
+one_bad_script_line profile decls text m n limits each (inr (inr p)) (inl q) = absurd (let first = begun_first profile decls text p.0 (last_line ++ p.1) p.3.begun in q.1 first.0 first.1)
+one_bad_script_line profile decls text m n limits each (inr (inl p)) (inr (inl q)) =
+    let same = one_begun profile decls text p.0 q.0 p.1 q.1 limits each p.3.begun q.3.begun p.3.no_line q.3.no_line in
     p.2 ∙ ap (λ (ls : List ScriptLine). length ls + 2) same.0 ∙ sym q.2
-one_bad_script_line profile decls text m n limits named (inr (inl p)) (inr (inr q)) =
-    let same = one_begun profile decls text p.0 q.0 p.1 (last_line ++ q.1) limits named p.3.begun q.3.begun p.3.no_line (end_has_none profile decls q.1 named) in
+one_bad_script_line profile decls text m n limits each (inr (inl p)) (inr (inr q)) =
+    let same = one_begun profile decls text p.0 q.0 p.1 (last_line ++ q.1) limits each p.3.begun q.3.begun p.3.no_line (end_has_none profile decls q.1) in
     absurd (p.3.no_end q.1 same.1)
-one_bad_script_line profile decls text m n limits named (inr (inr p)) (inr (inl q)) =
-    let same = one_begun profile decls text p.0 q.0 (last_line ++ p.1) q.1 limits named p.3.begun q.3.begun (end_has_none profile decls p.1 named) q.3.no_line in
+one_bad_script_line profile decls text m n limits each (inr (inr p)) (inr (inl q)) =
+    let same = one_begun profile decls text p.0 q.0 (last_line ++ p.1) q.1 limits each p.3.begun q.3.begun (end_has_none profile decls p.1) q.3.no_line in
     absurd (q.3.no_end p.1 (sym same.1))
-one_bad_script_line profile decls text m n limits named (inr (inr p)) (inr (inr q)) =
-    let same = one_begun profile decls text p.0 q.0 (last_line ++ p.1) (last_line ++ q.1) limits named p.3.begun q.3.begun (end_has_none profile decls p.1 named) (end_has_none profile decls q.1 named) in
+one_bad_script_line profile decls text m n limits each (inr (inr p)) (inr (inr q)) =
+    let same = one_begun profile decls text p.0 q.0 (last_line ++ p.1) (last_line ++ q.1) limits each p.3.begun q.3.begun (end_has_none profile decls p.1) (end_has_none profile decls q.1) in
     p.2 ∙ ap (λ (ls : List ScriptLine). length ls + 3) same.0 ∙ sym q.2
 
 -- ---- both
@@ -155,14 +155,14 @@ one_bad_script_line profile decls text m n limits named (inr (inr p)) (inr (inr 
 limits_1 : HasLimits version_1.profile
 limits_1 = record { index = omega arith; version = omega arith }
 
-named_in : (bytes : List ℕ) (d : Document) (m : ℕ) (x : List ℕ) → IsFrontOf version_1 bytes d m x → AreNamedDecls d.world.decls
-named_in bytes d m x p = (front_is_lawful version_1 bytes d m x version_1_is_format p).named
+decls_in : (bytes : List ℕ) (d : Document) (m : ℕ) (x : List ℕ) → IsFrontOf version_1 bytes d m x → AreDecls d.world.decls
+decls_in bytes d m x p = (front_is_lawful version_1 bytes d m x version_1_is_format p).world.decls
 
 pub one_scripted : (bytes : List ℕ) (d e : Document) (s t : List ScriptLine) → IsScripted bytes d s → IsScripted bytes e t → (d ≡ e) × (s ≡ t)
 one_scripted bytes d e s t p q =
     let front = one_front version_1 bytes d e p.count q.count p.rest q.rest version_1_is_format p.front q.front in (
       front.0,
-      one_lines version_1.profile d.world.decls p.rest s t limits_1 (named_in bytes d p.count p.rest p.front) p.behind
+      one_lines version_1.profile d.world.decls p.rest s t limits_1 (decls_in bytes d p.count p.rest p.front) p.behind
           (subst (λ (x : List ℕ). IsScript version_1.profile d.world.decls x t) (sym front.2) (subst (λ (f : Document). IsScript version_1.profile f.world.decls q.rest t) (sym front.0) q.behind)),
     )
 
@@ -175,7 +175,7 @@ bad_there bytes d m number x p q =
 pub no_bad_scripted : (bytes : List ℕ) (d : Document) (s : List ScriptLine) (number : ℕ) → IsScripted bytes d s → IsBadScriptedLine bytes number → ⊥
 no_bad_scripted bytes d s number p (inl q) = no_bad_front version_1 bytes d p.count number p.rest version_1_is_format p.front q
 no_bad_scripted bytes d s number p (inr q) =
-    no_bad_script_line version_1.profile d.world.decls p.rest s q.number_there limits_1 (named_in bytes d p.count p.rest p.front) p.behind (bad_there bytes d p.count number p.rest p.front q).1
+    no_bad_script_line version_1.profile d.world.decls p.rest s q.number_there limits_1 (decls_in bytes d p.count p.rest p.front) p.behind (bad_there bytes d p.count number p.rest p.front q).1
 
 pub one_bad_scripted : (bytes : List ℕ) (m n : ℕ) → IsBadScriptedLine bytes m → IsBadScriptedLine bytes n → m ≡ n
 one_bad_scripted bytes m n (inl p) (inl q) = one_number version_1 version_1_is_format bytes m n p.bad q.bad
@@ -183,5 +183,5 @@ one_bad_scripted bytes m n (inl p) (inr q) = absurd (no_bad_front version_1 byte
 one_bad_scripted bytes m n (inr p) (inl q) = absurd (no_bad_front version_1 bytes p.document p.count n p.rest version_1_is_format p.front q)
 one_bad_scripted bytes m n (inr p) (inr q) =
     let there = bad_there bytes p.document p.count n p.rest p.front q in
-    let same = one_bad_script_line version_1.profile p.document.world.decls p.rest p.number_there q.number_there limits_1 (named_in bytes p.document p.count p.rest p.front) p.bad there.1 in
+    let same = one_bad_script_line version_1.profile p.document.world.decls p.rest p.number_there q.number_there limits_1 (decls_in bytes p.document p.count p.rest p.front) p.bad there.1 in
     p.counted ∙ (λ i. there.0 i + same i) ∙ sym q.counted

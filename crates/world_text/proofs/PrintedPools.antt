@@ -27,7 +27,7 @@ use Rattle.world_text.specs.Meaning.{decl_in, slot_in, next_in, row_of, pools_in
 use Rattle.world_text.specs.Fitting.{last_section, all_settled, are_of_kinds, is_above, goes_on_last, fit_after}
 use Rattle.world_text.specs.Documents.{values_in, row_line, pool_lines}
 use Rattle.world_text.proofs.MeaningLemmas.{order_later, order_last_section-append, last_section_push, keeps, pools_in-row, pools_in-pool}
-use Rattle.world_text.proofs.PrintedValues.{row_of_kinds}
+use Rattle.world_text.proofs.PrintedValues.{few_kinds, row_of_kinds}
 use Rattle.world_text.proofs.PrintedMeaning.{none_in}
 use Rattle.world_text.proofs.PrintedFits.{fit_append, between}
 
@@ -84,7 +84,7 @@ rows_fit format slots before done last decl (entry ∷ rows) are at is_decl abov
       decl_at = ap (λ ds. slice_get ds (length done)) (sym kept_decls) ∙ at.decl_at;
     } in
     and_from _ _
-    (and_from _ _ (between section.Pools section.Pools (last_section before) (omega arith) (omega arith)) (and_from _ _ (ap (λ ss. is_live ss entry.0) are ∙ live.0) (row_goes _ _ done last decl entry.0 (values_in format.profile decl entry.1) at.pools at.decl_at above.0 (row_of_kinds format.profile decl entry.1 is_decl wide.0))))
+    (and_from _ _ (between section.Pools section.Pools (last_section before) (omega arith) (omega arith)) (and_from _ _ (ap (λ ss. is_live ss entry.0) are ∙ live.0) (row_goes _ _ done last decl entry.0 (values_in format.profile decl entry.1) at.pools at.decl_at above.0 (row_of_kinds format.profile decl entry.1 (few_kinds decl is_decl) wide.0))))
     (rows_fit format slots (before ++ l ∷ []) done (last ++ x ∷ []) decl rows (sym kept_slots ∙ are) after is_decl (all_weaker _ _ (λ other smaller. above_last last x other.0 smaller) rows ascending.0) ascending.1 live.1 wide.1)
 
 -- ---- pools

@@ -126,10 +126,17 @@ row_kept profile decl row is_decl is_row fit =
     let whole : map (field_of_value profile) (values_in profile decl row) ++ replicate (4 - length (values_in profile decl row)) (pos 0) ≡ row.f = (λ i. front i ++ back i) ∙ take-append-drop decl.count row.f in
     λ i. record { f = whole i }
 
+pub few_kinds : (decl : Decl) → IsDecl decl → length (kinds_of decl) ≤ 4
+few_kinds decl is_decl = omega (arith, length-take decl.count decl.kinds, is_decl.few)
+
 -- its values are as many as the component has fields, and of their kinds
-pub row_of_kinds : (profile : Profile) (decl : Decl) (row : Row) → IsDecl decl → IsRow row → are_of_kinds (kinds_of decl) (values_in profile decl row) ≡ true
-row_of_kinds profile decl row is_decl is_row =
-    and_from _ _ (eq-eqb (length (kinds_of decl)) (length (values_in profile decl row)) ((count_of decl row is_decl is_row).0 ∙ sym (length-values profile decl row is_decl is_row))) (values_of_kinds profile (kinds_of decl) (take decl.count row.f))
+pub row_of_kinds : (profile : Profile) (decl : Decl) (row : Row) → length (kinds_of decl) ≤ 4 → IsRow row → are_of_kinds (kinds_of decl) (values_in profile decl row) ≡ true
+row_of_kinds profile decl row few is_row =
+    let kinds = kinds_of decl in
+    let fields = take decl.count row.f in
+    let enough : length kinds ≤ length fields = omega (arith, few, length-take decl.count decl.kinds, length-take decl.count row.f, is_row.long) in
+    let as_many : length kinds ≡ length (values_in profile decl row) = sym (length-map (zip kinds fields) _ ∙ length-zip kinds fields ∙ omega (arith, enough)) in
+    and_from _ _ (eq-eqb (length kinds) (length (values_in profile decl row)) as_many) (values_of_kinds profile kinds fields)
 
 -- at most 4
 pub row_short : (profile : Profile) (decl : Decl) (row : Row) → IsDecl decl → IsRow row → length (values_in profile decl row) ≤ 4

@@ -6,9 +6,10 @@ use Rattle.std.specs.Iterator.Adapters.{zip_first, zip_second}
 use Rattle.std.specs.Slice.Iter.{iter_rest}
 use Rattle.std.proofs.iter.Yields.{fronts}
 use Rattle.std.proofs.lemmas.Iterator.{zips}
-use Rattle.std.proofs.lemmas.List.{append-nil}
+use Rattle.std.proofs.lemmas.List.{append-nil, take-append-drop}
 use Rattle.std.proofs.lemmas.Grind.{flat_map-append}
 use Rattle.std.proofs.lemmas.Slice.Zip.{Zip-more, either_empty_from_Zip}
+use Rattle.std.proofs.Math.Seq.{take-append_seam}
 use Rattle.world_text.specs.declared.format.Format.{Format}
 use Rattle.world_text.specs.LineKinds.{Line}
 use Rattle.world_text.specs.Lines.{text_of}
@@ -41,6 +42,21 @@ printed_more text part cons z before after split old new whole pushed invariant 
 -- where nothing is left, the whole is printed
 pub printed_all : {Z : Type 0} (text : List Z → List ℕ) (left : List Z) → left ≡ [] → text [] ≡ [] → (out whole : List ℕ) → out ++ text left ≡ whole → out ≡ whole
 printed_all text left none empty out whole invariant = sym (append-nil out) ∙ ap (λ bytes. out ++ bytes) (sym (ap text none ∙ empty)) ∙ invariant
+
+-- what something is appended to is a front of it
+pub front_of : (old x new : List ℕ) → new ≡ old ++ x → take (length old) new ≡ old
+front_of old x new e = ap (take (length old)) e ∙ take-append_seam old x
+
+-- a front of what is kept is kept
+pub front_kept : (old x held new : List ℕ) → held ≡ old ++ x → take (length held) new ≡ held → take (length old) new ≡ old
+front_kept old x held new is kept =
+    ap (take (length old)) (sym (take-append-drop (length held) new) ∙ ap (λ t. t ++ drop (length held) new) (kept ∙ is) ∙ append_assoc old x (drop (length held) new))
+    ∙ take-append_seam old (x ++ drop (length held) new)
+
+-- the same of a front of it
+pub front_on : (old held new : List ℕ) → take (length old) held ≡ old → take (length held) new ≡ held → take (length old) new ≡ old
+front_on old held new front kept =
+    front_kept old (drop (length old) held) held new (sym (take-append-drop (length old) held) ∙ ap (λ t. t ++ drop (length old) held) front) kept
 
 pub text_of-append : (format : Format) (a b : List Line) → text_of format (a ++ b) ≡ text_of format a ++ text_of format b
 text_of-append format a b = flat_map-append _ a b

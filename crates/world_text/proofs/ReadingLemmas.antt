@@ -27,17 +27,17 @@ pub record HasRead (format : Format) (bytes : List ℕ) (draft : Draft) (count :
   pub same_format : draft.format ≡ format
   pub stands : Stands draft lines
 
-fit_after_push : (format : Format) (before lines : List Line) (l : Line) → fit_after format before lines ≡ true → fits format (before ++ lines) l ≡ true → fit_after format before (lines ++ l ∷ []) ≡ true
+pub fit_after_push : (format : Format) (before lines : List Line) (l : Line) → fit_after format before lines ≡ true → fits format (before ++ lines) l ≡ true → fit_after format before (lines ++ l ∷ []) ≡ true
 fit_after_push format before [] l fit one = and_true _ _ (subst (λ ls. fits format ls l ≡ true) (append-nil before) one) refl
 fit_after_push format before (m ∷ lines) l fit one =
     let h = and_parts (fits format before m) (fit_after format (before ++ m ∷ []) lines) fit in
     and_true _ _ h.0 (fit_after_push format (before ++ m ∷ []) lines l h.1 (subst (λ ls. fits format ls l ≡ true) (sym (append_assoc before (m ∷ []) lines)) one))
 
-each_push : (format : Format) (lines : List Line) (l : Line) → AllByRecursion (IsLine format) lines → IsLine format l → AllByRecursion (IsLine format) (lines ++ l ∷ [])
+pub each_push : (format : Format) (lines : List Line) (l : Line) → AllByRecursion (IsLine format) lines → IsLine format l → AllByRecursion (IsLine format) (lines ++ l ∷ [])
 each_push format [] l each is = (is, tt)
 each_push format (m ∷ lines) l each is = (each.0, each_push format lines l each.1 is)
 
-text_push : (format : Format) (lines : List Line) (l : Line) (after : List ℕ) → text_of format lines ++ (line_text format l ++ 10 ∷ after) ≡ text_of format (lines ++ l ∷ []) ++ after
+pub text_push : (format : Format) (lines : List Line) (l : Line) (after : List ℕ) → text_of format lines ++ (line_text format l ++ 10 ∷ after) ≡ text_of format (lines ++ l ∷ []) ++ after
 text_push format lines l after =
     ap (λ (x : List ℕ). text_of format lines ++ x) (sym (append_assoc (line_text format l) (10 ∷ []) after))
     ∙ sym (append_assoc (text_of format lines) (line_text format l ++ 10 ∷ []) after)

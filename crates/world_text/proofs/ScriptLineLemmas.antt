@@ -24,10 +24,10 @@ use Rattle.world_text.specs.declared.verbs.RowVerb.{RowVerb}
 use Rattle.world_text.specs.declared.verbs.RowVerb.TheVariants as of_row
 use Rattle.world_text.specs.declared.verbs.Verb.{Verb}
 use Rattle.world_text.specs.declared.verbs.Verb.TheVariants as verb
-use Rattle.world_text.specs.Scripts.{name_at, entry_text, row_text, names_text, without_text, event_word, field_text, field_value_text, AreNamedOnce, AreLists, IsLineFirst}
+use Rattle.world_text.specs.Scripts.{name_at, entry_text, row_text, names_text, without_text, event_word, field_text, field_value_text, IsCalled, AreNamedOnce, AreLists, IsLineFirst}
 use Rattle.world_text.specs.ScriptReading.{IsEntityNext, IsEntryNext, IsRowLast, AreEntityNames, IsKeptAs, IsViewLast, AreNamesLast, IsLineBehind}
 use Rattle.world_text.specs.Verbs.{word_of, plain_word, plain_command, entity_word, entity_command, entry_word, entry_command, row_word, row_command, names_word, names_command}
-use Rattle.world_text.proofs.NameListLemmas.{pools_declared, pools_spelled}
+use Rattle.world_text.proofs.NameListLemmas.{pools_called, pools_spelled}
 
 -- ---- from the parts to the line
 
@@ -61,15 +61,15 @@ row_first profile decls text behind rest of_row.EmplaceOrReplace entity pool row
 row_first profile decls text behind rest of_row.Replace entity pool row e h = record { is = (h.entry.is, h.may_set); written = Run (command.Replace entity pool row); same = (command.Replace entity pool row, refl, refl); spelled = spell (codes "replace") (32 ∷ (entry_text profile decls entity pool ++ row_text profile decls pool row)) text behind rest e (row_whole profile decls behind rest entity pool row h) }
 
 -- kept lists are lists of a line
-kept_lists : (decls : List Decl) (order excluded all without : List ℕ) → IsKeptAs order all → IsKeptAs excluded without → All (λ pool. pool < length decls) order → All (λ pool. pool < length decls) excluded → 0 < length order → length order + length excluded ≤ 16 → AreNamedOnce (order ++ excluded) → AreLists decls all without
-kept_lists decls order excluded all without kept out declared declared_out some few once =
+kept_lists : (decls : List Decl) (order excluded all without : List ℕ) → IsKeptAs order all → IsKeptAs excluded without → All (IsCalled decls) order → All (IsCalled decls) excluded → 0 < length order → length order + length excluded ≤ 16 → AreNamedOnce (order ++ excluded) → AreLists decls all without
+kept_lists decls order excluded all without kept out called called_out some few once =
     let long = length_permutation order all kept.same in
     let long_out = length_permutation excluded without out.same in
     record {
       bounds = record { some = omega arith; few = omega arith };
       once = λ pool. subst (λ (n : ℕ). n ≤ 1) (sym (sum_by-IsPermutation _ (order ++ excluded) (all ++ without) (IsPermutation-append order all excluded without kept.same out.same))) (once pool);
-      kept = record { declared = All-permutation (λ pool. pool < length decls) order all kept.same declared; ascending = kept.ascending };
-      kept_without = record { declared = All-permutation (λ pool. pool < length decls) excluded without out.same declared_out; ascending = out.ascending };
+      kept = record { called = All-permutation (IsCalled decls) order all kept.same called; ascending = kept.ascending };
+      kept_without = record { called = All-permutation (IsCalled decls) excluded without out.same called_out; ascending = out.ascending };
     }
 
 kept_nothing : IsKeptAs [] []
@@ -78,7 +78,7 @@ kept_nothing = record { same = IsPermutation-refl []; ascending = IsNonDecreasin
 -- the components of an `all_of` or `any_of` line
 one_list : (decls : List Decl) (behind order pools rest : List ℕ) → IsKeptAs order pools → AreNamesLast decls [] behind order rest → AreLists decls pools []
 one_list decls behind order pools rest kept last =
-    kept_lists decls order [] pools [] kept kept_nothing (pools_declared decls behind order (10 ∷ rest) last.names.next) (All-nil (λ pool. pool < length decls)) last.some
+    kept_lists decls order [] pools [] kept kept_nothing (pools_called decls behind order (10 ∷ rest) last.names.next) (All-nil (IsCalled decls)) last.some
     (omega (arith, last.names.few)) (subst AreNamedOnce (sym (append-nil order)) last.names.once)
 
 names_whole : (profile : Profile) (decls : List Decl) (text rest : List ℕ) (entity : Entity) (pools : List ℕ) → (h : AreEntityNames profile decls text entity pools rest) → text ≡ (32 ∷ (entity_text profile entity ++ names_text decls h.order)) ++ 10 ∷ rest
@@ -111,7 +111,7 @@ pair_whole a b rest = ap (λ (t : List ℕ). 32 ∷ t) (sym (append_assoc a (32 
 
 view_first : (profile : Profile) (decls : List Decl) (text behind rest : List ℕ) (all without : List ℕ) → text ≡ codes "view" ++ behind → IsViewLast decls behind all without rest → IsLineFirst profile decls text (Run (command.View all without)) rest
 view_first profile decls text behind rest all without e h = record {
-  is = kept_lists decls h.order h.excluded all without h.kept h.kept_out (pools_declared decls behind h.order h.behind h.names.next) h.out.declared h.some h.out.few h.out.once;
+  is = kept_lists decls h.order h.excluded all without h.kept h.kept_out (pools_called decls behind h.order h.behind h.names.next) h.out.called h.some h.out.few h.out.once;
   written = Run (command.View h.order h.excluded);
   same = (command.View h.order h.excluded, (h.order, h.excluded, h.kept.same, h.kept_out.same, refl), refl);
   spelled = spell (codes "view") (names_text decls h.order ++ without_text decls h.excluded) text behind rest e
@@ -134,14 +134,14 @@ line_first profile decls text behind rest verb.Patch line e h = subst (λ (l : S
       (h.4.whole ∙ field_whole (entity_text profile h.0) (field_text decls h.1 h.2) (field_value_text profile decls h.1 h.2 h.3) rest);
 })
 line_first profile decls text behind rest verb.Clear line e h = subst (λ (l : ScriptLine). IsLineFirst profile decls text l rest) (sym h.2) (record {
-  is = h.1.declared;
+  is = h.1.called;
   written = Run (command.Clear h.0);
   same = (command.Clear h.0, refl, refl);
   spelled = spell (codes "clear") (32 ∷ name_at decls h.0) text behind rest e h.1.whole;
 })
 line_first profile decls text behind rest verb.View line e h = subst (λ (l : ScriptLine). IsLineFirst profile decls text l rest) (sym h.3) (view_first profile decls text behind rest h.0 h.1 e h.2)
 line_first profile decls text behind rest verb.Watch line e h = subst (λ (l : ScriptLine). IsLineFirst profile decls text l rest) (sym h.3) (record {
-  is = h.2.declared;
+  is = h.2.called;
   written = Watch h.0 h.1;
   same = refl;
   spelled = spell (codes "watch") (32 ∷ (event_word h.0 ++ 32 ∷ name_at decls h.1)) text behind rest e (h.2.whole ∙ pair_whole (event_word h.0) (name_at decls h.1) rest);

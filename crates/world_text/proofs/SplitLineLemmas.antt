@@ -29,11 +29,10 @@ use Rattle.world_text.specs.declared.verbs.RowVerb.{RowVerb}
 use Rattle.world_text.specs.declared.verbs.RowVerb.TheVariants as of_row
 use Rattle.world_text.specs.declared.verbs.Verb.{Verb}
 use Rattle.world_text.specs.declared.verbs.Verb.TheVariants as verb
-use Rattle.world_text.specs.Documents.{AreNamedDecls}
-use Rattle.world_text.specs.Scripts.{name_at, entry_text, row_text, field_text, field_value_text, names_text, without_text, script_line_text, event_word, IsEntry, AreNamedOnce, AreLists, IsLineFirst}
+use Rattle.world_text.specs.Scripts.{name_at, entry_text, row_text, field_text, field_value_text, names_text, without_text, script_line_text, event_word, IsCalled, IsEntry, AreNamedOnce, AreLists, IsLineFirst}
 use Rattle.world_text.specs.ScriptReading.{EndsName, IsNameSplit, IsPoolNext, IsLineBehind}
 use Rattle.world_text.specs.Verbs.{word_of, plain_word, plain_command, entity_word, entity_command, entry_word, entry_command, row_word, row_command, names_word, names_command}
-use Rattle.world_text.proofs.NameLemmas.{IsFree, name_free, named_at, same_name_split}
+use Rattle.world_text.proofs.NameLemmas.{IsFree, name_free, same_name_split}
 use Rattle.world_text.proofs.NameListLemmas.{times-append, pools_of_text, end_is_no_name}
 use Rattle.world_text.proofs.RowCommandLemmas.{row_ends}
 use Rattle.world_text.proofs.ScriptLineLemmas.{field_whole, pair_whole}
@@ -96,8 +95,8 @@ split_row profile decls text rest of entity pool row is e = record {
 
 -- the lists of a line, as they are written
 record AreWritten (decls : List Decl) (order excluded : List ℕ) : Type 0 where
-  pub declared : All (λ pool. pool < length decls) order
-  pub declared_out : All (λ pool. pool < length decls) excluded
+  pub called : All (IsCalled decls) order
+  pub called_out : All (IsCalled decls) excluded
   pub some : 0 < length order
   pub few : length order + length excluded ≤ 16
   pub once : AreNamedOnce (order ++ excluded)
@@ -111,8 +110,8 @@ written_lists decls order excluded all without same same_out h =
     let long_out = length_permutation excluded without same_out in
     let once : AreNamedOnce (order ++ excluded) = λ pool. subst (λ (n : ℕ). n ≤ 1) (sum_by-IsPermutation _ (order ++ excluded) (all ++ without) (IsPermutation-append order all excluded without same same_out)) (h.once pool) in
     record {
-      declared = All-permutation (λ pool. pool < length decls) all order back h.kept.declared;
-      declared_out = All-permutation (λ pool. pool < length decls) without excluded back_out h.kept_without.declared;
+      called = All-permutation (IsCalled decls) all order back h.kept.called;
+      called_out = All-permutation (IsCalled decls) without excluded back_out h.kept_without.called;
       some = omega (arith, h.bounds.some);
       few = omega (arith, h.bounds.few);
       once = once;
@@ -139,7 +138,7 @@ split_names profile decls text rest of entity pools order is same e =
           behind = names_text decls order ++ 10 ∷ rest;
           first = record { of_profile = is.0; whole = ap (λ (t : List ℕ). 32 ∷ t) (append_assoc (entity_text profile entity) (names_text decls order) (10 ∷ rest)); ended = names_number decls order rest };
           names = record {
-            names = record { next = pools_of_text decls (names_text decls order ++ 10 ∷ rest) order (10 ∷ rest) lists.declared refl refl; once = lists.once_all; few = omega (arith, lists.few); last = end_is_no_name decls rest };
+            names = record { next = pools_of_text decls (names_text decls order ++ 10 ∷ rest) order (10 ∷ rest) lists.called refl refl; once = lists.once_all; few = omega (arith, lists.few); last = end_is_no_name decls rest };
             some = lists.some;
           };
           kept = record { same = same; ascending = is.1.kept.ascending };
@@ -149,9 +148,9 @@ split_names profile decls text rest of entity pools order is same e =
     }
 
 -- the word `not` names no component
-not_is_no_name : (decls : List Decl) (t : List ℕ) → AreNamedDecls decls → EndsName t → (pool : ℕ) (more : List ℕ) → IsPoolNext decls (codes " not" ++ t) pool more → ⊥
-not_is_no_name decls t named ended pool more h =
-    let name = named_at decls pool named.each h.declared in
+not_is_no_name : (decls : List Decl) (t : List ℕ) → EndsName t → (pool : ℕ) (more : List ℕ) → IsPoolNext decls (codes " not" ++ t) pool more → ⊥
+not_is_no_name decls t ended pool more h =
+    let name = h.called.named.form in
     let same = same_name_split (codes "not") (name_at decls pool) t more (refl, (refl, (refl, tt))) (name_free _ name) ended h.ended (ap (drop 1) h.whole) in
     false≢true (subst (λ (n : List ℕ). is_name n ≡ true) (sym same.0) name)
 
@@ -159,12 +158,12 @@ without_ends : (decls : List Decl) (excluded rest : List ℕ) → EndsName (with
 without_ends decls [] rest = refl
 without_ends decls (pool ∷ excluded) rest = refl
 
-without_is_no_name : (decls : List Decl) (excluded rest : List ℕ) → AreNamedDecls decls → (pool : ℕ) (more : List ℕ) → IsPoolNext decls (without_text decls excluded ++ 10 ∷ rest) pool more → ⊥
-without_is_no_name decls [] rest named pool more h = end_is_no_name decls rest pool more h
-without_is_no_name decls (p ∷ excluded) rest named pool more h = not_is_no_name decls (names_text decls (p ∷ excluded) ++ 10 ∷ rest) named refl pool more h
+without_is_no_name : (decls : List Decl) (excluded rest : List ℕ) → (pool : ℕ) (more : List ℕ) → IsPoolNext decls (without_text decls excluded ++ 10 ∷ rest) pool more → ⊥
+without_is_no_name decls [] rest pool more h = end_is_no_name decls rest pool more h
+without_is_no_name decls (p ∷ excluded) rest pool more h = not_is_no_name decls (names_text decls (p ∷ excluded) ++ 10 ∷ rest) refl pool more h
 
-split_view : (profile : Profile) (decls : List Decl) (text rest : List ℕ) (all without order excluded : List ℕ) → AreNamedDecls decls → AreLists decls all without → IsPermutation order all → IsPermutation excluded without → text ≡ codes "view" ++ ((names_text decls order ++ without_text decls excluded) ++ 10 ∷ rest) → IsSplitLine profile decls text (Run (command.View all without)) rest
-split_view profile decls text rest all without order excluded named is same same_out e =
+split_view : (profile : Profile) (decls : List Decl) (text rest : List ℕ) (all without order excluded : List ℕ) → AreLists decls all without → IsPermutation order all → IsPermutation excluded without → text ≡ codes "view" ++ ((names_text decls order ++ without_text decls excluded) ++ 10 ∷ rest) → IsSplitLine profile decls text (Run (command.View all without)) rest
+split_view profile decls text rest all without order excluded is same same_out e =
     let lists = written_lists decls order excluded all without same same_out is in
     let later = without_text decls excluded ++ 10 ∷ rest in
     let behind = (names_text decls order ++ without_text decls excluded) ++ 10 ∷ rest in
@@ -181,9 +180,9 @@ split_view profile decls text rest all without order excluded named is same same
           order = order;
           excluded = excluded;
           behind = later;
-          names = record { next = pools_of_text decls behind order later lists.declared (without_ends decls excluded rest) spelled; once = lists.once_all; few = omega (arith, lists.few); last = without_is_no_name decls excluded rest named };
+          names = record { next = pools_of_text decls behind order later lists.called (without_ends decls excluded rest) spelled; once = lists.once_all; few = omega (arith, lists.few); last = without_is_no_name decls excluded rest };
           some = lists.some;
-          out = record { declared = lists.declared_out; once = lists.once; few = lists.few; whole = refl };
+          out = record { called = lists.called_out; once = lists.once; few = lists.few; whole = refl };
           kept = record { same = same; ascending = is.kept.ascending };
           kept_out = record { same = same_out; ascending = is.kept_without.ascending };
         },
@@ -197,56 +196,56 @@ split_view profile decls text rest all without order excluded named is same same
 
 -- ---- each line
 
-split_run : (profile : Profile) (decls : List Decl) (text : List ℕ) (c : Command) (rest : List ℕ) → AreNamedDecls decls → IsLineFirst profile decls text (Run c) rest → IsSplitLine profile decls text (Run c) rest
-split_run profile decls text command.Create rest named h = split_plain profile decls text rest plain.Create (unspell (codes "create") [] text rest (as_written profile decls text (Run command.Create) (Run command.Create) rest h (h.same.2 ∙ ap Run h.same.1)))
-split_run profile decls text command.Alive rest named h = split_plain profile decls text rest plain.Alive (unspell (codes "alive") [] text rest (as_written profile decls text (Run command.Alive) (Run command.Alive) rest h (h.same.2 ∙ ap Run h.same.1)))
-split_run profile decls text command.Size rest named h = split_plain profile decls text rest plain.Size (unspell (codes "size") [] text rest (as_written profile decls text (Run command.Size) (Run command.Size) rest h (h.same.2 ∙ ap Run h.same.1)))
-split_run profile decls text (command.Hint e) rest named h = split_entity profile decls text rest of_entity.Hint e h.is (unspell (codes "hint") (32 ∷ entity_text profile e) text rest (as_written profile decls text (Run (command.Hint e)) (Run (command.Hint e)) rest h (h.same.2 ∙ ap Run h.same.1)))
-split_run profile decls text (command.Destroy e) rest named h = split_entity profile decls text rest of_entity.Destroy e h.is (unspell (codes "destroy") (32 ∷ entity_text profile e) text rest (as_written profile decls text (Run (command.Destroy e)) (Run (command.Destroy e)) rest h (h.same.2 ∙ ap Run h.same.1)))
-split_run profile decls text (command.Valid e) rest named h = split_entity profile decls text rest of_entity.Valid e h.is (unspell (codes "valid") (32 ∷ entity_text profile e) text rest (as_written profile decls text (Run (command.Valid e)) (Run (command.Valid e)) rest h (h.same.2 ∙ ap Run h.same.1)))
-split_run profile decls text (command.Orphan e) rest named h = split_entity profile decls text rest of_entity.Orphan e h.is (unspell (codes "orphan") (32 ∷ entity_text profile e) text rest (as_written profile decls text (Run (command.Orphan e)) (Run (command.Orphan e)) rest h (h.same.2 ∙ ap Run h.same.1)))
-split_run profile decls text (command.Remove e pool) rest named h = split_entry profile decls text rest of_entry.Remove e pool h.is (unspell (codes "remove") (32 ∷ entry_text profile decls e pool) text rest (as_written profile decls text (Run (command.Remove e pool)) (Run (command.Remove e pool)) rest h (h.same.2 ∙ ap Run h.same.1)))
-split_run profile decls text (command.Erase e pool) rest named h = split_entry profile decls text rest of_entry.Erase e pool h.is (unspell (codes "erase") (32 ∷ entry_text profile decls e pool) text rest (as_written profile decls text (Run (command.Erase e pool)) (Run (command.Erase e pool)) rest h (h.same.2 ∙ ap Run h.same.1)))
-split_run profile decls text (command.Get e pool) rest named h = split_entry profile decls text rest of_entry.Get e pool h.is (unspell (codes "get") (32 ∷ entry_text profile decls e pool) text rest (as_written profile decls text (Run (command.Get e pool)) (Run (command.Get e pool)) rest h (h.same.2 ∙ ap Run h.same.1)))
-split_run profile decls text (command.Emplace e pool row) rest named h = split_row profile decls text rest of_row.Emplace e pool row h.is (unspell (codes "emplace") (32 ∷ (entry_text profile decls e pool ++ row_text profile decls pool row)) text rest (as_written profile decls text (Run (command.Emplace e pool row)) (Run (command.Emplace e pool row)) rest h (h.same.2 ∙ ap Run h.same.1)))
-split_run profile decls text (command.EmplaceOrReplace e pool row) rest named h = split_row profile decls text rest of_row.EmplaceOrReplace e pool row h.is (unspell (codes "emplace_or_replace") (32 ∷ (entry_text profile decls e pool ++ row_text profile decls pool row)) text rest (as_written profile decls text (Run (command.EmplaceOrReplace e pool row)) (Run (command.EmplaceOrReplace e pool row)) rest h (h.same.2 ∙ ap Run h.same.1)))
-split_run profile decls text (command.Replace e pool row) rest named h = split_row profile decls text rest of_row.Replace e pool row h.is (unspell (codes "replace") (32 ∷ (entry_text profile decls e pool ++ row_text profile decls pool row)) text rest (as_written profile decls text (Run (command.Replace e pool row)) (Run (command.Replace e pool row)) rest h (h.same.2 ∙ ap Run h.same.1)))
-split_run profile decls text (command.AllOf e pools) rest named h =
+split_run : (profile : Profile) (decls : List Decl) (text : List ℕ) (c : Command) (rest : List ℕ) → IsLineFirst profile decls text (Run c) rest → IsSplitLine profile decls text (Run c) rest
+split_run profile decls text command.Create rest h = split_plain profile decls text rest plain.Create (unspell (codes "create") [] text rest (as_written profile decls text (Run command.Create) (Run command.Create) rest h (h.same.2 ∙ ap Run h.same.1)))
+split_run profile decls text command.Alive rest h = split_plain profile decls text rest plain.Alive (unspell (codes "alive") [] text rest (as_written profile decls text (Run command.Alive) (Run command.Alive) rest h (h.same.2 ∙ ap Run h.same.1)))
+split_run profile decls text command.Size rest h = split_plain profile decls text rest plain.Size (unspell (codes "size") [] text rest (as_written profile decls text (Run command.Size) (Run command.Size) rest h (h.same.2 ∙ ap Run h.same.1)))
+split_run profile decls text (command.Hint e) rest h = split_entity profile decls text rest of_entity.Hint e h.is (unspell (codes "hint") (32 ∷ entity_text profile e) text rest (as_written profile decls text (Run (command.Hint e)) (Run (command.Hint e)) rest h (h.same.2 ∙ ap Run h.same.1)))
+split_run profile decls text (command.Destroy e) rest h = split_entity profile decls text rest of_entity.Destroy e h.is (unspell (codes "destroy") (32 ∷ entity_text profile e) text rest (as_written profile decls text (Run (command.Destroy e)) (Run (command.Destroy e)) rest h (h.same.2 ∙ ap Run h.same.1)))
+split_run profile decls text (command.Valid e) rest h = split_entity profile decls text rest of_entity.Valid e h.is (unspell (codes "valid") (32 ∷ entity_text profile e) text rest (as_written profile decls text (Run (command.Valid e)) (Run (command.Valid e)) rest h (h.same.2 ∙ ap Run h.same.1)))
+split_run profile decls text (command.Orphan e) rest h = split_entity profile decls text rest of_entity.Orphan e h.is (unspell (codes "orphan") (32 ∷ entity_text profile e) text rest (as_written profile decls text (Run (command.Orphan e)) (Run (command.Orphan e)) rest h (h.same.2 ∙ ap Run h.same.1)))
+split_run profile decls text (command.Remove e pool) rest h = split_entry profile decls text rest of_entry.Remove e pool h.is (unspell (codes "remove") (32 ∷ entry_text profile decls e pool) text rest (as_written profile decls text (Run (command.Remove e pool)) (Run (command.Remove e pool)) rest h (h.same.2 ∙ ap Run h.same.1)))
+split_run profile decls text (command.Erase e pool) rest h = split_entry profile decls text rest of_entry.Erase e pool h.is (unspell (codes "erase") (32 ∷ entry_text profile decls e pool) text rest (as_written profile decls text (Run (command.Erase e pool)) (Run (command.Erase e pool)) rest h (h.same.2 ∙ ap Run h.same.1)))
+split_run profile decls text (command.Get e pool) rest h = split_entry profile decls text rest of_entry.Get e pool h.is (unspell (codes "get") (32 ∷ entry_text profile decls e pool) text rest (as_written profile decls text (Run (command.Get e pool)) (Run (command.Get e pool)) rest h (h.same.2 ∙ ap Run h.same.1)))
+split_run profile decls text (command.Emplace e pool row) rest h = split_row profile decls text rest of_row.Emplace e pool row h.is (unspell (codes "emplace") (32 ∷ (entry_text profile decls e pool ++ row_text profile decls pool row)) text rest (as_written profile decls text (Run (command.Emplace e pool row)) (Run (command.Emplace e pool row)) rest h (h.same.2 ∙ ap Run h.same.1)))
+split_run profile decls text (command.EmplaceOrReplace e pool row) rest h = split_row profile decls text rest of_row.EmplaceOrReplace e pool row h.is (unspell (codes "emplace_or_replace") (32 ∷ (entry_text profile decls e pool ++ row_text profile decls pool row)) text rest (as_written profile decls text (Run (command.EmplaceOrReplace e pool row)) (Run (command.EmplaceOrReplace e pool row)) rest h (h.same.2 ∙ ap Run h.same.1)))
+split_run profile decls text (command.Replace e pool row) rest h = split_row profile decls text rest of_row.Replace e pool row h.is (unspell (codes "replace") (32 ∷ (entry_text profile decls e pool ++ row_text profile decls pool row)) text rest (as_written profile decls text (Run (command.Replace e pool row)) (Run (command.Replace e pool row)) rest h (h.same.2 ∙ ap Run h.same.1)))
+split_run profile decls text (command.AllOf e pools) rest h =
     let order = h.same.1 in
     split_names profile decls text rest of_names.AllOf e pools order.0 h.is order.1 (unspell (codes "all_of") (32 ∷ (entity_text profile e ++ names_text decls order.0)) text rest (as_written profile decls text (Run (command.AllOf e pools)) (Run (command.AllOf e order.0)) rest h (h.same.2 ∙ ap Run order.2)))
-split_run profile decls text (command.AnyOf e pools) rest named h =
+split_run profile decls text (command.AnyOf e pools) rest h =
     let order = h.same.1 in
     split_names profile decls text rest of_names.AnyOf e pools order.0 h.is order.1 (unspell (codes "any_of") (32 ∷ (entity_text profile e ++ names_text decls order.0)) text rest (as_written profile decls text (Run (command.AnyOf e pools)) (Run (command.AnyOf e order.0)) rest h (h.same.2 ∙ ap Run order.2)))
-split_run profile decls text (command.Patch e pool field value) rest named h = record {
+split_run profile decls text (command.Patch e pool field value) rest h = record {
   v = verb.Patch;
   behind = (32 ∷ (entity_text profile e ++ 32 ∷ (field_text decls pool field ++ 32 ∷ field_value_text profile decls pool field value))) ++ 10 ∷ rest;
   whole = unspell (codes "patch") (32 ∷ (entity_text profile e ++ 32 ∷ (field_text decls pool field ++ 32 ∷ field_value_text profile decls pool field value))) text rest (as_written profile decls text (Run (command.Patch e pool field value)) (Run (command.Patch e pool field value)) rest h (h.same.2 ∙ ap Run h.same.1));
   ended = refl;
   left = (e, pool, field, value, record { is = h.is.0; may_set = h.is.1; whole = sym (field_whole (entity_text profile e) (field_text decls pool field) (field_value_text profile decls pool field value) rest) }, refl);
 }
-split_run profile decls text (command.Clear pool) rest named h = record {
+split_run profile decls text (command.Clear pool) rest h = record {
   v = verb.Clear;
   behind = 32 ∷ (name_at decls pool ++ 10 ∷ rest);
   whole = unspell (codes "clear") (32 ∷ name_at decls pool) text rest (as_written profile decls text (Run (command.Clear pool)) (Run (command.Clear pool)) rest h (h.same.2 ∙ ap Run h.same.1));
   ended = refl;
-  left = (pool, record { declared = h.is; whole = refl; ended = refl }, refl);
+  left = (pool, record { called = h.is; whole = refl; ended = refl }, refl);
 }
-split_run profile decls text (command.View all without) rest named h =
+split_run profile decls text (command.View all without) rest h =
     let lists = h.same.1 in
-    split_view profile decls text rest all without lists.0 lists.1 named h.is lists.2 lists.3 (unspell (codes "view") (names_text decls lists.0 ++ without_text decls lists.1) text rest (as_written profile decls text (Run (command.View all without)) (Run (command.View lists.0 lists.1)) rest h (h.same.2 ∙ ap Run lists.4)))
-split_run profile decls text _ rest named h = absurd h.is
+    split_view profile decls text rest all without lists.0 lists.1 h.is lists.2 lists.3 (unspell (codes "view") (names_text decls lists.0 ++ without_text decls lists.1) text rest (as_written profile decls text (Run (command.View all without)) (Run (command.View lists.0 lists.1)) rest h (h.same.2 ∙ ap Run lists.4)))
+split_run profile decls text _ rest h = absurd h.is
 
 -- every line
-pub split_line : (profile : Profile) (decls : List Decl) (text : List ℕ) (line : ScriptLine) (rest : List ℕ) → AreNamedDecls decls → IsLineFirst profile decls text line rest → IsSplitLine profile decls text line rest
-split_line profile decls text (Run c) rest named h = split_run profile decls text c rest named h
-split_line profile decls text (Watch kind pool) rest named h = record {
+pub split_line : (profile : Profile) (decls : List Decl) (text : List ℕ) (line : ScriptLine) (rest : List ℕ) → IsLineFirst profile decls text line rest → IsSplitLine profile decls text line rest
+split_line profile decls text (Run c) rest h = split_run profile decls text c rest h
+split_line profile decls text (Watch kind pool) rest h = record {
   v = verb.Watch;
   behind = (32 ∷ (event_word kind ++ 32 ∷ name_at decls pool)) ++ 10 ∷ rest;
   whole = unspell (codes "watch") (32 ∷ (event_word kind ++ 32 ∷ name_at decls pool)) text rest (as_written profile decls text (Watch kind pool) (Watch kind pool) rest h h.same);
   ended = refl;
-  left = (kind, pool, record { declared = h.is; whole = sym (pair_whole (event_word kind) (name_at decls pool) rest) }, refl);
+  left = (kind, pool, record { called = h.is; whole = sym (pair_whole (event_word kind) (name_at decls pool) rest) }, refl);
 }
-split_line profile decls text (Unwatch number) rest named h = record {
+split_line profile decls text (Unwatch number) rest h = record {
   v = verb.Unwatch;
   behind = 32 ∷ (decimal number ++ 10 ∷ rest);
   whole = unspell (codes "unwatch") (32 ∷ decimal number) text rest (as_written profile decls text (Unwatch number) (Unwatch number) rest h h.same);
@@ -329,14 +328,14 @@ word_free verb.Watch = (refl, (refl, (refl, (refl, (refl, tt)))))
 word_free verb.Unwatch = (refl, (refl, (refl, (refl, (refl, (refl, (refl, tt)))))))
 
 -- no line begins with another word
-pub no_verb : (profile : Profile) (decls : List Decl) (text word behind : List ℕ) → AreNamedDecls decls → IsNameSplit text word behind → ((v : Verb) → word ≢ word_of v) → (line : ScriptLine) (rest : List ℕ) → IsLineFirst profile decls text line rest → ⊥
-no_verb profile decls text word behind named split none line rest h =
-    let s = split_line profile decls text line rest named h in
+pub no_verb : (profile : Profile) (decls : List Decl) (text word behind : List ℕ) → IsNameSplit text word behind → ((v : Verb) → word ≢ word_of v) → (line : ScriptLine) (rest : List ℕ) → IsLineFirst profile decls text line rest → ⊥
+no_verb profile decls text word behind split none line rest h =
+    let s = split_line profile decls text line rest h in
     none s.v (same_name_split word (word_of s.v) behind s.behind split.free (word_free s.v) split.ended s.ended (sym split.whole ∙ s.whole)).0
 
 -- behind the word of a line stands the rest of it
-pub line_behind : (profile : Profile) (decls : List Decl) (text word behind : List ℕ) (v : Verb) → AreNamedDecls decls → IsNameSplit text word behind → word ≡ word_of v → (line : ScriptLine) (rest : List ℕ) → IsLineFirst profile decls text line rest → IsLineBehind profile decls v behind line rest
-line_behind profile decls text word behind v named split is line rest h =
-    let s = split_line profile decls text line rest named h in
+pub line_behind : (profile : Profile) (decls : List Decl) (text word behind : List ℕ) (v : Verb) → IsNameSplit text word behind → word ≡ word_of v → (line : ScriptLine) (rest : List ℕ) → IsLineFirst profile decls text line rest → IsLineBehind profile decls v behind line rest
+line_behind profile decls text word behind v split is line rest h =
+    let s = split_line profile decls text line rest h in
     let same = same_name_split word (word_of s.v) behind s.behind split.free (word_free s.v) split.ended s.ended (sym split.whole ∙ s.whole) in
     subst (λ (u : Verb). IsLineBehind profile decls u behind line rest) (same_verb s.v v (sym same.0 ∙ is)) (subst (λ (t : List ℕ). IsLineBehind profile decls s.v t line rest) (sym same.1) s.left)

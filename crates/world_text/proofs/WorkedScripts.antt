@@ -1,15 +1,14 @@
 -- Worked scripts, computed: what their lines print, what watches hear, and the document that is left.
-use Rattle.std.proofs.Common.{◌≡◌, ℕ, true, false, List, [], ◌∷◌, pos, codes, refl, replicate, length}
+use Rattle.std.proofs.Common.{◌≡◌, ℕ, true, List, [], ◌∷◌, pos, codes, refl, replicate, length}
 use Rattle.std.specs.Fmt.{digits}
 use Rattle.entity_id.specs.declared.entity.Entity.{Entity}
 use Rattle.entity_id.specs.Identifiers.{p20_12, null}
-use Rattle.world_model.specs.declared.command.Command.TheVariants.{Create, Hint, Destroy, Emplace, EmplaceOrReplace, Replace, Patch, Remove, Erase, Clear, Get, AllOf, AnyOf, Orphan, Alive, Size, View}
+use Rattle.world_model.specs.declared.command.Command.TheVariants.{Create, Hint, Destroy, Emplace, EmplaceOrReplace, Replace, Patch, Remove, Erase, Clear, Get, AllOf, AnyOf, Orphan, Alive, Size}
 use Rattle.world_model.specs.declared.component.Decl.{Decl}
 use Rattle.world_model.specs.declared.component.Kind.TheVariants.{Int}
 use Rattle.world_model.specs.declared.component.Row.{Row}
 use Rattle.world_model.specs.declared.event.EventKind.TheVariants as event
 use Rattle.world_model.specs.declared.slot.Slot.{Slot}
-use Rattle.world_model.specs.declared.world.World.{World}
 use Rattle.world_text.specs.declared.document.Document.{Document}
 use Rattle.world_text.specs.declared.script.ScriptLine.{ScriptLine}
 use Rattle.world_text.specs.declared.script.ScriptLine.TheVariants.{Run, Watch, Unwatch}

@@ -1,5 +1,5 @@
 -- What readers of parts of a script's line say.
-use Rattle.std.specs.Prelude.{◌≡◌, ℕ, ℤ, ◌+◌, ◌<◌, ◌≤◌, Bool, true, false, ◌||◌, ◌==◌, nat_le, List, [], ◌∷◌, ◌++◌, length, All, IsPermutation}
+use Rattle.std.specs.Prelude.{◌≡◌, ℕ, ℤ, ◌+◌, ◌<◌, ◌≤◌, Bool, true, false, ◌||◌, ◌==◌, nat_le, List, [], ◌∷◌, ◌++◌, length, Some, All, IsPermutation}
 use Rattle.std.specs.List.{AllByRecursion, list_any}
 use Rattle.std.specs.List.Sorted.{IsNonDecreasing}
 use Rattle.std.specs.Fmt.{decimal}
@@ -9,15 +9,15 @@ use Rattle.entity_id.specs.Identifiers.{IsOfProfile}
 use Rattle.entity_id.specs.Texts.{entity_text, EndsNumber}
 use Rattle.world_model.specs.declared.command.Command.TheVariants as command
 use Rattle.world_model.specs.declared.component.Decl.{Decl}
+use Rattle.world_model.specs.declared.component.Kind.{Kind}
 use Rattle.world_model.specs.declared.component.Row.{Row}
 use Rattle.world_model.specs.declared.event.EventKind.{EventKind}
-use Rattle.world_model.specs.Tokens.{field_count}
 use Rattle.world_model.specs.Conditions.{MaySet, MaySetField, view_limit}
 use Rattle.world_text.specs.declared.script.ScriptLine.{ScriptLine}
 use Rattle.world_text.specs.declared.script.ScriptLine.TheVariants.{Run, Watch, Unwatch}
 use Rattle.world_text.specs.declared.verbs.Verb.{Verb}
 use Rattle.world_text.specs.declared.verbs.Verb.TheVariants as verb
-use Rattle.world_text.specs.Scripts.{name_at, entry_text, row_text, field_text, field_value_text, without_text, event_word, unwatch_limit, IsEntry, AreNamedOnce}
+use Rattle.world_text.specs.Scripts.{name_at, entry_text, row_text, field_text, field_value_text, without_text, event_word, unwatch_limit, kind_at, IsCalled, IsEntry, AreNamedOnce}
 use Rattle.world_text.specs.Verbs.{plain_command, entity_command, entry_command, row_command, names_command}
 
 -- whether a name ends before this byte: a space (32), or a line end (10)
@@ -45,7 +45,7 @@ pub record IsEntityNext (profile : Profile) (text : List ℕ) (entity : Entity) 
 
 -- a text begins with a space and the name of this component, whole, and this is the rest
 pub record IsPoolNext (decls : List Decl) (text : List ℕ) (pool : ℕ) (rest : List ℕ) : Type 0 where
-  pub declared : pool < length decls
+  pub called : IsCalled decls pool
   pub whole : text ≡ 32 ∷ (name_at decls pool ++ rest)
   pub ended : EndsName rest
 
@@ -55,10 +55,14 @@ pub record IsEntryNext (profile : Profile) (decls : List Decl) (text : List ℕ)
   pub whole : text ≡ 32 ∷ (entry_text profile decls entity pool ++ rest)
   pub ended : EndsName rest
 
--- a text begins with a space and a field of a component, whole, and this is the rest
-pub record IsFieldNext (decls : List Decl) (text : List ℕ) (pool field : ℕ) (rest : List ℕ) : Type 0 where
-  pub declared : pool < length decls
-  pub within : field < field_count decls pool
+-- a component has 4 fields at most
+pub record HasFewFields (decls : List Decl) (pool : ℕ) : Type 0 where
+  pub few : (field : ℕ) (kind : Kind) → kind_at decls pool field ≡ Some kind → field < 4
+
+-- a text begins with a space and a field of a component, whole, which is of this kind, and this is the rest
+pub record IsFieldNext (decls : List Decl) (text : List ℕ) (pool field : ℕ) (kind : Kind) (rest : List ℕ) : Type 0 where
+  pub called : IsCalled decls pool
+  pub of_kind : kind_at decls pool field ≡ Some kind
   pub whole : text ≡ 32 ∷ (field_text decls pool field ++ rest)
   pub ended : EndsName rest
 
@@ -88,7 +92,7 @@ pub record AreNamesLast (decls : List Decl) (others : List ℕ) (text : List ℕ
 
 -- what a view leaves out, up to the end of its line, beside these others
 pub record IsWithoutLast (decls : List Decl) (others : List ℕ) (text : List ℕ) (pools rest : List ℕ) : Type 0 where
-  pub declared : All (λ pool. pool < length decls) pools
+  pub called : All (IsCalled decls) pools
   pub once : AreNamedOnce (others ++ pools)
   pub few : length others + length pools ≤ view_limit
   pub whole : text ≡ without_text decls pools ++ 10 ∷ rest
@@ -132,7 +136,7 @@ pub record IsViewLast (decls : List Decl) (text : List ℕ) (all without rest : 
 
 -- a kind of events and a component
 pub record IsWatchLast (decls : List Decl) (text : List ℕ) (kind : EventKind) (pool : ℕ) (rest : List ℕ) : Type 0 where
-  pub declared : pool < length decls
+  pub called : IsCalled decls pool
   pub whole : text ≡ 32 ∷ (event_word kind ++ 32 ∷ (name_at decls pool ++ 10 ∷ rest))
 
 -- the number of a watch

@@ -17,6 +17,7 @@ use Rattle.world_model.specs.declared.event.EventKind.{EventKind}
 use Rattle.world_model.specs.declared.event.EventKind.TheVariants as event
 use Rattle.world_model.specs.Components.{kinds_of}
 use Rattle.world_model.specs.Conditions.{MaySet, MaySetField, MayView}
+use Rattle.world_model.specs.Tokens.{IsNameToken}
 use Rattle.world_text.specs.declared.document.Document.{Document}
 use Rattle.world_text.specs.declared.script.ScriptLine.{ScriptLine}
 use Rattle.world_text.specs.declared.script.ScriptLine.TheVariants.{Run, Watch, Unwatch}
@@ -123,14 +124,19 @@ begun_text profile decls lines = first_line ++ flat_map (script_line_text profil
 
 -- ---- which lines there are
 
--- the entity of a command is an identifier of the profile, and its component is declared
+-- a declared component that its name tells: the name has the form of names, and no component before it has the same
+pub record IsCalled (decls : List Decl) (pool : ℕ) : Type 0 where
+  pub declared : pool < length decls
+  pub named : IsNameToken decls (name_at decls pool) pool
+
+-- the entity of a command is an identifier of the profile, and its component is one that its name tells
 pub record IsEntry (profile : Profile) (decls : List Decl) (entity : Entity) (pool : ℕ) : Type 0 where
   pub of_profile : IsOfProfile profile entity
-  pub declared : pool < length decls
+  pub called : IsCalled decls pool
 
--- declared components, in ascending number
+-- components that their names tell, in ascending number
 pub record AreKept (decls : List Decl) (pools : List ℕ) : Type 0 where
-  pub declared : All (λ pool. pool < length decls) pools
+  pub called : All (IsCalled decls) pools
   pub ascending : IsNonDecreasing pools
 
 -- no component is named twice
@@ -145,7 +151,7 @@ pub record AreLists (decls : List Decl) (all without : List ℕ) : Type 0 where
   pub kept : AreKept decls all
   pub kept_without : AreKept decls without
 
--- the commands that a script can have, with identifiers of the profile, declared components, and rows and values that fit them
+-- the commands that a script can have, with identifiers of the profile, components that their names tell, and rows and values that fit them
 abbrev pub IsCommandLine : Profile → List Decl → Command → Type 0
 IsCommandLine profile decls command.Create = Unit {0}
 IsCommandLine profile decls (command.Hint entity) = IsOfProfile profile entity
@@ -157,7 +163,7 @@ IsCommandLine profile decls (command.Replace entity pool row) = IsEntry profile 
 IsCommandLine profile decls (command.Patch entity pool field value) = IsEntry profile decls entity pool × MaySetField profile decls pool field value
 IsCommandLine profile decls (command.Remove entity pool) = IsEntry profile decls entity pool
 IsCommandLine profile decls (command.Erase entity pool) = IsEntry profile decls entity pool
-IsCommandLine profile decls (command.Clear pool) = pool < length decls
+IsCommandLine profile decls (command.Clear pool) = IsCalled decls pool
 IsCommandLine profile decls (command.Get entity pool) = IsEntry profile decls entity pool
 IsCommandLine profile decls (command.AllOf entity pools) = IsOfProfile profile entity × AreLists decls pools []
 IsCommandLine profile decls (command.AnyOf entity pools) = IsOfProfile profile entity × AreLists decls pools []
@@ -174,7 +180,7 @@ unwatch_limit = 4294967295
 -- the lines that a script can have
 abbrev pub IsScriptLine : Profile → List Decl → ScriptLine → Type 0
 IsScriptLine profile decls (Run command) = IsCommandLine profile decls command
-IsScriptLine profile decls (Watch kind pool) = pool < length decls
+IsScriptLine profile decls (Watch kind pool) = IsCalled decls pool
 IsScriptLine profile decls (Unwatch number) = number ≤ unwatch_limit
 
 -- a text begins with a line of a script, and this stands behind it

@@ -1,10 +1,10 @@
 //! The lines of a script, each read from the front of the bytes that begin with it.
 
-ghost use Rattle.std.specs.Prelude.{◌≡◌, ◌∷◌, ℕ, List, IfOk, IfSome, IfNone, IsErrOf};
+ghost use Rattle.std.specs.Prelude.{◌≡◌, ◌∷◌, ◌≤◌, ℕ, List, IfOk, IfSome, IfNone, IsErrOf, length};
 ghost use Rattle.world_model.specs.declared.component.Decl.{Decl};
 ghost use Rattle.world_text.specs.declared.script.ScriptLine.{ScriptLine};
 ghost use Rattle.world_text.specs.declared.verbs.Verb.{Verb};
-ghost use Rattle.world_text.specs.Documents.{AreNamedDecls};
+ghost use Rattle.world_model.specs.Worlds.{component_limit};
 ghost use Rattle.world_text.specs.Formats.{version_1};
 ghost use Rattle.world_text.specs.Reading.{IsAfter};
 ghost use Rattle.world_text.specs.Scripts.{IsLineFirst, first_line, last_line};
@@ -38,16 +38,16 @@ pub fn after_last_line(text: &[u8]) -> Option<&[u8]>
     after(text, b"end\n")
 }
 
-/// The line of a script that stands at the front of a text, and what stands behind its end. The
-/// components are those of a document: 64 at most, each with a name, no two with the same one. `Bad` comes
-/// exactly where the text begins with none, and `OutOfMemory` where memory for a list of components runs
-/// out.
+/// The line of a script that stands at the front of a text, and what stands behind its end. There are at
+/// most 64 components; a line names one by its name, as [`read_name`](world_model::read_name) reads it.
+/// `Bad` comes exactly where the text begins with none, and `OutOfMemory` where memory for a list of
+/// components runs out.
 pub fn take_script_line<'a>(
     alloc: Global,
     decls: &[Decl],
     text: &'a [u8],
 ) -> Result<(ScriptLine, &'a [u8]), LineFault>
-    requires { AreNamedDecls decls.now }
+    requires { length decls.now ≤ component_limit }
     ensures ok { IfOk result (λ x.
         IsLineFirst version_1.profile decls.now text.now x.0 x.1.now) }
     ensures bad { IsErrOf result LineFault.Bad → (line : ScriptLine) (rest : List ℕ) →
@@ -67,7 +67,7 @@ fn take_behind<'a>(
     decls: &[Decl],
     text: &'a [u8],
 ) -> Result<(ScriptLine, &'a [u8]), LineFault>
-    requires { AreNamedDecls decls.now }
+    requires { length decls.now ≤ component_limit }
     ensures ok { IfOk result (λ x.
         IsLineBehind version_1.profile decls.now verb text.now x.0 x.1.now) }
     ensures bad { IsErrOf result LineFault.Bad → (line : ScriptLine) (rest : List ℕ) →
@@ -112,7 +112,7 @@ fn take_of_entry<'a>(
     decls: &[Decl],
     text: &'a [u8],
 ) -> Option<(ScriptLine, &'a [u8])>
-    requires { AreNamedDecls decls.now }
+    requires { length decls.now ≤ component_limit }
     ensures some { IfSome result (λ x.
         IsLineBehind version_1.profile decls.now (Verb.OfEntry verb) text.now x.0 x.1.now) }
     ensures none { IfNone result ((line : ScriptLine) (rest : List ℕ) →
@@ -123,7 +123,7 @@ fn take_of_entry<'a>(
 }
 
 fn take_clear<'a>(decls: &[Decl], text: &'a [u8]) -> Option<(ScriptLine, &'a [u8])>
-    requires { AreNamedDecls decls.now }
+    requires { length decls.now ≤ component_limit }
     ensures some { IfSome result (λ x.
         IsLineBehind version_1.profile decls.now Verb.Clear text.now x.0 x.1.now) }
     ensures none { IfNone result ((line : ScriptLine) (rest : List ℕ) →

@@ -1,13 +1,8 @@
 //! What holds of every document, whoever reads or prints it.
 
 ghost use Rattle.std.specs.Prelude.{◌≡◌, ℕ, List};
-ghost use Rattle.std.specs.List.{AllByRecursion};
 ghost use Rattle.world_text.specs.declared.document.Document.{Document};
-ghost use Rattle.world_text.specs.declared.script.ScriptLine.{ScriptLine};
 ghost use Rattle.world_text.specs.Documents.{IsDocument, IsBadLine, IsFront, IsBadFront, IsLawfulDocument, text};
-ghost use Rattle.world_text.specs.Formats.{version_1};
-ghost use Rattle.world_text.specs.Playing.{document_after};
-ghost use Rattle.world_text.specs.Scripts.{IsScriptLine, IsScripted, IsBadScriptedLine};
 
 /// A text stands for one document at most. No memory.
 pub fn one_document()
@@ -19,6 +14,13 @@ pub fn one_bad_line()
     ensures none { (bytes : List ℕ) (document : Document) (number : ℕ) →
         IsDocument bytes document → IsBadLine bytes number → ⊥ }
     ensures one { (bytes : List ℕ) (a b : ℕ) → IsBadLine bytes a → IsBadLine bytes b → a ≡ b }
+{}
+
+/// A text is a document, or has a first bad line: no text is neither. No memory.
+pub fn document_or_bad_line()
+    ensures { (bytes : List ℕ) →
+        ((document : Document) → IsDocument bytes document → ⊥) →
+        ((number : ℕ) → IsBadLine bytes number → ⊥) → ⊥ }
 {}
 
 /// A text begins with one document at most, up to one rest. No text that begins with a document has a bad
@@ -35,33 +37,31 @@ pub fn one_front()
     ensures one { (bytes : List ℕ) (a b : ℕ) → IsBadFront bytes a → IsBadFront bytes b → a ≡ b }
 {}
 
+/// A text begins with a document, or has a first bad line there: no text has neither. No memory.
+pub fn front_or_bad_line()
+    ensures { (bytes : List ℕ) →
+        ((document : Document) (count : ℕ) (rest : List ℕ) →
+        IsFront bytes document count rest → ⊥) →
+        ((number : ℕ) → IsBadFront bytes number → ⊥) → ⊥ }
+{}
+
 /// The canonical text of a lawful document is a document that stands for the same. No memory.
 pub fn printed_text()
     ensures { (document : Document) →
         IsLawfulDocument document → IsDocument (text document) document }
 {}
 
+/// A lawful document is what a reader of its canonical text gets: the text stands for no other, and has no
+/// bad line. No memory.
+pub fn printed_text_is_read_back()
+    ensures same { (document other : Document) →
+        IsLawfulDocument document → IsDocument (text document) other → other ≡ document }
+    ensures none { (document : Document) (number : ℕ) →
+        IsLawfulDocument document → IsBadLine (text document) number → ⊥ }
+{}
+
 /// What a document stands for is lawful. No memory.
 pub fn documents_are_lawful()
     ensures { (bytes : List ℕ) (document : Document) →
         IsDocument bytes document → IsLawfulDocument document }
-{}
-
-/// The world that a script leaves of a lawful document makes one again. No memory.
-pub fn scripts_keep_documents_lawful()
-    ensures { (document : Document) (script : List ScriptLine) →
-        IsLawfulDocument document →
-        AllByRecursion (IsScriptLine version_1.profile document.world.decls) script →
-        IsLawfulDocument (document_after document script) }
-{}
-
-/// A text stands for one document with one script at most. No such text has a bad line, and no text has
-/// two first bad lines. No memory.
-pub fn one_script()
-    ensures one { (bytes : List ℕ) (a b : Document) (first second : List ScriptLine) →
-        IsScripted bytes a first → IsScripted bytes b second → (a ≡ b) × (first ≡ second) }
-    ensures none { (bytes : List ℕ) (document : Document) (script : List ScriptLine) (number : ℕ) →
-        IsScripted bytes document script → IsBadScriptedLine bytes number → ⊥ }
-    ensures one_bad { (bytes : List ℕ) (a b : ℕ) →
-        IsBadScriptedLine bytes a → IsBadScriptedLine bytes b → a ≡ b }
 {}

@@ -26,7 +26,9 @@ mod reading;
 mod replies;
 mod row_commands;
 mod row_lines;
+mod row_printing;
 mod script;
+mod script_laws;
 mod scripts;
 mod section;
 mod single;
@@ -40,16 +42,17 @@ pub use document::Document;
 pub use fault::{LineFault, TextRefused};
 pub use format::{Format, VERSION_1};
 pub use laws::{
-    documents_are_lawful, one_bad_line, one_document, one_front, one_script, printed_text,
-    scripts_keep_documents_lawful,
+    document_or_bad_line, documents_are_lawful, front_or_bad_line, one_bad_line, one_document,
+    one_front, printed_text, printed_text_is_read_back,
 };
 pub use printing::{push_world, write_world};
 pub use reading::{Front, read_front, read_world};
 pub use replies::push_reply;
 pub use script::{Script, ScriptLine};
+pub use script_laws::{
+    names_tell_components, one_command, one_script, script_or_bad_line,
+    scripts_keep_documents_lawful,
+};
 pub use scripts::read_script;
 pub use single::read_command;
 pub use watch_replies::{push_heard, push_unwatched, push_watched};
-
-#[cfg(test)]
-mod tests;

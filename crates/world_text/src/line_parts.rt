@@ -1,8 +1,8 @@
 //! Parts of a script's line, each behind a space.
 
-ghost use Rattle.std.specs.Prelude.{◌≡◌, ◌<◌, ◌∷◌, ℕ, List, length, IfSome, IfNone};
+ghost use Rattle.std.specs.Prelude.{◌≡◌, ◌<◌, ◌∷◌, ◌≤◌, ℕ, List, length, IfSome, IfNone};
 ghost use Rattle.entity_id.specs.declared.entity.Entity.{Entity};
-ghost use Rattle.world_text.specs.Documents.{AreNamedDecls};
+ghost use Rattle.world_model.specs.Worlds.{component_limit};
 ghost use Rattle.world_text.specs.Formats.{version_1};
 ghost use Rattle.world_text.specs.ScriptReading.{IsEntityNext, IsEntryNext, IsPoolNext};
 
@@ -35,7 +35,7 @@ pub fn take_last_entity(text: &[u8]) -> Option<(Entity, &[u8])>
 
 /// A component by its name, and what stands behind that.
 pub fn take_next_pool<'a>(decls: &[Decl], text: &'a [u8]) -> Option<(u32, &'a [u8])>
-    requires { AreNamedDecls decls.now }
+    requires { length decls.now ≤ component_limit }
     ensures some { IfSome result (λ x. IsPoolNext decls.now text.now x.0 x.1.now) }
     ensures none { IfNone result ((pool : ℕ) (rest : List ℕ) →
         IsPoolNext decls.now text.now pool rest → ⊥) }
@@ -48,7 +48,7 @@ pub fn take_next_pool<'a>(decls: &[Decl], text: &'a [u8]) -> Option<(u32, &'a [u
 
 /// A component up to the end of its line, and what stands behind that.
 pub fn take_last_pool<'a>(decls: &[Decl], text: &'a [u8]) -> Option<(u32, &'a [u8])>
-    requires { AreNamedDecls decls.now }
+    requires { length decls.now ≤ component_limit }
     ensures some { IfSome result (λ x. IsPoolNext decls.now text.now x.0 (10 ∷ x.1.now)) }
     ensures none { IfNone result ((pool : ℕ) (rest : List ℕ) →
         IsPoolNext decls.now text.now pool (10 ∷ rest) → ⊥) }
@@ -60,7 +60,7 @@ pub fn take_last_pool<'a>(decls: &[Decl], text: &'a [u8]) -> Option<(u32, &'a [u
 
 /// An identifier and a component, and what stands behind them.
 pub fn take_next_entry<'a>(decls: &[Decl], text: &'a [u8]) -> Option<(Entity, u32, &'a [u8])>
-    requires { AreNamedDecls decls.now }
+    requires { length decls.now ≤ component_limit }
     ensures some { IfSome result (λ x.
         IsEntryNext version_1.profile decls.now text.now x.0 x.1 x.2.now) }
     ensures within { IfSome result (λ x. x.1 < length decls.now) }
@@ -74,7 +74,7 @@ pub fn take_next_entry<'a>(decls: &[Decl], text: &'a [u8]) -> Option<(Entity, u3
 
 /// An identifier and a component up to the end of their line, and what stands behind that.
 pub fn take_last_entry<'a>(decls: &[Decl], text: &'a [u8]) -> Option<(Entity, u32, &'a [u8])>
-    requires { AreNamedDecls decls.now }
+    requires { length decls.now ≤ component_limit }
     ensures some { IfSome result (λ x.
         IsEntryNext version_1.profile decls.now text.now x.0 x.1 (10 ∷ x.2.now)) }
     ensures none { IfNone result ((entity : Entity) (pool : ℕ) (rest : List ℕ) →

@@ -1,9 +1,9 @@
 //! Lines of a script that list components.
 
-ghost use Rattle.std.specs.Prelude.{ℕ, List, IfOk, IsErrOf};
+ghost use Rattle.std.specs.Prelude.{◌≤◌, ℕ, List, IfOk, IsErrOf, length};
 ghost use Rattle.world_text.specs.declared.script.ScriptLine.{ScriptLine};
 ghost use Rattle.world_text.specs.declared.verbs.Verb.{Verb};
-ghost use Rattle.world_text.specs.Documents.{AreNamedDecls};
+ghost use Rattle.world_model.specs.Worlds.{component_limit};
 ghost use Rattle.world_text.specs.Formats.{version_1};
 ghost use Rattle.world_text.specs.ScriptReading.{IsLineBehind};
 
@@ -22,7 +22,7 @@ pub fn take_of_names<'a>(
     decls: &[Decl],
     text: &'a [u8],
 ) -> Result<(ScriptLine, &'a [u8]), LineFault>
-    requires { AreNamedDecls decls.now }
+    requires { length decls.now ≤ component_limit }
     ensures ok { IfOk result (λ x.
         IsLineBehind version_1.profile decls.now (Verb.OfNames verb) text.now x.0 x.1.now) }
     ensures bad { IsErrOf result LineFault.Bad → (line : ScriptLine) (rest : List ℕ) →
@@ -42,7 +42,7 @@ pub fn take_view<'a>(
     decls: &[Decl],
     text: &'a [u8],
 ) -> Result<(ScriptLine, &'a [u8]), LineFault>
-    requires { AreNamedDecls decls.now }
+    requires { length decls.now ≤ component_limit }
     ensures ok { IfOk result (λ x.
         IsLineBehind version_1.profile decls.now Verb.View text.now x.0 x.1.now) }
     ensures bad { IsErrOf result LineFault.Bad → (line : ScriptLine) (rest : List ℕ) →

@@ -2,7 +2,7 @@
 
 ghost use Rattle.std.specs.Prelude.{◌≡◌, ◌≤◌, ℕ, List, length, IfOk, IsErrOf};
 ghost use Rattle.world_model.specs.Conditions.{view_limit};
-ghost use Rattle.world_text.specs.Documents.{AreNamedDecls};
+ghost use Rattle.world_model.specs.Worlds.{component_limit};
 ghost use Rattle.world_text.specs.Scripts.{AreNamedOnce};
 ghost use Rattle.world_text.specs.ScriptReading.{AreNamesNext, AreNamesLast, IsWithoutLast, IsKeptAs};
 ghost use Rattle.world_text.specs.ScriptReading.{is_over as is_over_by};
@@ -26,7 +26,7 @@ pub fn take_names<'a>(
     others: &[u32],
     text: &'a [u8],
 ) -> Result<(Vec<u32>, &'a [u8]), LineFault>
-    requires named { AreNamedDecls decls.now }
+    requires decls { length decls.now ≤ component_limit }
     requires once { AreNamedOnce others.now }
     requires few { length others.now ≤ view_limit }
     ensures ok { IfOk result (λ x.
@@ -54,7 +54,7 @@ pub fn take_last_names<'a>(
     others: &[u32],
     text: &'a [u8],
 ) -> Result<(Vec<u32>, &'a [u8]), LineFault>
-    requires named { AreNamedDecls decls.now }
+    requires decls { length decls.now ≤ component_limit }
     requires once { AreNamedOnce others.now }
     requires few { length others.now ≤ view_limit }
     ensures ok { IfOk result (λ x.
@@ -80,7 +80,7 @@ pub fn take_without<'a>(
     others: &[u32],
     text: &'a [u8],
 ) -> Result<(Vec<u32>, &'a [u8]), LineFault>
-    requires named { AreNamedDecls decls.now }
+    requires decls { length decls.now ≤ component_limit }
     requires once { AreNamedOnce others.now }
     requires few { length others.now ≤ view_limit }
     ensures ok { IfOk result (λ x.

@@ -1,13 +1,14 @@
-ghost use Rattle.std.specs.Prelude.{◌≡◌, ◌+◌, ◌*◌, ◌≤◌, ◌++◌, ◌∷◌, [], length, drop, map, OnOk, OnErr, IfOk};
-ghost use Rattle.std.specs.Fmt.{decimal, signed_decimal};
+ghost use Rattle.std.specs.Prelude.{◌≡◌, ◌+◌, ◌≤◌, ◌++◌, ◌∷◌, [], length, take, drop, map, OnOk, OnErr, IfOk};
+ghost use Rattle.std.specs.Fmt.{decimal};
 ghost use Rattle.std.specs.List.{flat_map, zip};
 ghost use Rattle.world_text.specs.Formats.{version_1};
-ghost use Rattle.world_text.specs.Lines.{line_text, kind_text, value_text, values_text, text_of};
-ghost use Rattle.world_text.specs.Documents.{IsLawfulDocument, text, value_in, values_in, row_line, pool_lines};
+ghost use Rattle.world_text.specs.Lines.{line_text, kind_text, text_of};
+ghost use Rattle.world_text.specs.Documents.{IsLawfulDocument, text, row_line, pool_lines};
 ghost use Rattle.world_text.specs.LineKinds.{Line};
 
 use super::Document;
 use super::format::VERSION_1;
+use super::row_printing::write_row;
 use entity_id::{Entity, OutOfMemory};
 use itoa::write_digits;
 use std::alloc::Global;
@@ -29,10 +30,25 @@ pub fn write_world(alloc: Global, document: &Document) -> Result<Vec<u8>, OutOfM
 }
 
 /// Appends the canonical text of a lawful document, as [`write_world`] makes it. After a refusal, which
-/// comes where memory for the text runs out, `out` is of no use: no clause says what it holds then.
+/// comes where memory for the text runs out, `out` is as before.
 pub fn push_world(out: &mut Vec<u8>, document: &Document) -> Result<(), OutOfMemory>
     requires { IsLawfulDocument document.now }
-    ensures { OnOk result (out.new.items ≡ out.old.items ++ text document.now) }
+    ensures ok { OnOk result (out.new.items ≡ out.old.items ++ text document.now) }
+    ensures err { OnErr result (out.new.items ≡ out.old.items) }
+{
+    let before = out.len();
+    let pushed = push_lines(out, document);
+    if pushed.is_err() {
+        out.truncate(before);
+    }
+    pushed
+}
+
+// The same, but after a refusal a front of the text may have been appended. So it is with the parts below.
+fn push_lines(out: &mut Vec<u8>, document: &Document) -> Result<(), OutOfMemory>
+    requires { IsLawfulDocument document.now }
+    ensures ok { OnOk result (out.new.items ≡ out.old.items ++ text document.now) }
+    ensures front { take (length out.old.items) out.new.items ≡ out.old.items }
 {
     let world = &document.world;
     push_number(out, b"world ", VERSION_1.version)?;
@@ -81,8 +97,9 @@ pub(super) fn write_word(word: &[u8], buf: &mut [u8], end: usize) -> usize
 }
 
 fn push_decls(out: &mut Vec<u8>, decls: &[Decl]) -> Result<(), OutOfMemory>
-    ensures { OnOk result (out.new.items ≡
+    ensures ok { OnOk result (out.new.items ≡
         out.old.items ++ text_of version_1 (map Line.Component decls.now)) }
+    ensures front { take (length out.old.items) out.new.items ≡ out.old.items }
 {
     for decl in decls {
         push_decl(out, decl)?;
@@ -91,8 +108,9 @@ fn push_decls(out: &mut Vec<u8>, decls: &[Decl]) -> Result<(), OutOfMemory>
 }
 
 fn push_decl(out: &mut Vec<u8>, decl: &Decl) -> Result<(), OutOfMemory>
-    ensures { OnOk result (out.new.items ≡
+    ensures ok { OnOk result (out.new.items ≡
         out.old.items ++ (line_text version_1 (Line.Component decl.now) ++ 10 ∷ [])) }
+    ensures front { take (length out.old.items) out.new.items ≡ out.old.items }
 {
     out.extend_from_slice(b"component ")?;
     out.extend_from_slice(decl.name.as_slice())?;
@@ -102,7 +120,8 @@ fn push_decl(out: &mut Vec<u8>, decl: &Decl) -> Result<(), OutOfMemory>
 }
 
 fn push_kinds(out: &mut Vec<u8>, kinds: &[Kind]) -> Result<(), OutOfMemory>
-    ensures { OnOk result (out.new.items ≡ out.old.items ++ flat_map kind_text kinds.now) }
+    ensures ok { OnOk result (out.new.items ≡ out.old.items ++ flat_map kind_text kinds.now) }
+    ensures front { take (length out.old.items) out.new.items ≡ out.old.items }
 {
     for kind in kinds {
         match kind {
@@ -114,8 +133,9 @@ fn push_kinds(out: &mut Vec<u8>, kinds: &[Kind]) -> Result<(), OutOfMemory>
 }
 
 fn push_slots(out: &mut Vec<u8>, slots: &[Slot]) -> Result<(), OutOfMemory>
-    ensures { OnOk result (out.new.items ≡
+    ensures ok { OnOk result (out.new.items ≡
         out.old.items ++ text_of version_1 (map Line.Slot slots.now)) }
+    ensures front { take (length out.old.items) out.new.items ≡ out.old.items }
 {
     for slot in slots {
         push_slot(out, *slot)?;
@@ -124,16 +144,18 @@ fn push_slots(out: &mut Vec<u8>, slots: &[Slot]) -> Result<(), OutOfMemory>
 }
 
 fn push_slot(out: &mut Vec<u8>, slot: Slot) -> Result<(), OutOfMemory>
-    ensures { OnOk result (out.new.items ≡
+    ensures ok { OnOk result (out.new.items ≡
         out.old.items ++ (line_text version_1 (Line.Slot slot) ++ 10 ∷ [])) }
+    ensures err { OnErr result (out.new.items ≡ out.old.items) }
 {
     let word = if slot.live { b"live " } else { b"free " };
     push_number(out, word, u64::from(slot.version))
 }
 
 fn push_nexts(out: &mut Vec<u8>, free: &[u32]) -> Result<(), OutOfMemory>
-    ensures { OnOk result (out.new.items ≡
+    ensures ok { OnOk result (out.new.items ≡
         out.old.items ++ text_of version_1 (map Line.Next free.now)) }
+    ensures front { take (length out.old.items) out.new.items ≡ out.old.items }
 {
     for index in free {
         push_number(out, b"next ", u64::from(*index))?;
@@ -142,8 +164,9 @@ fn push_nexts(out: &mut Vec<u8>, free: &[u32]) -> Result<(), OutOfMemory>
 }
 
 fn push_pools(out: &mut Vec<u8>, decls: &[Decl], pools: &[Rows]) -> Result<(), OutOfMemory>
-    ensures { OnOk result (out.new.items ≡ out.old.items ++
+    ensures ok { OnOk result (out.new.items ≡ out.old.items ++
         text_of version_1 (flat_map (pool_lines version_1.profile) (zip decls.now pools.now))) }
+    ensures front { take (length out.old.items) out.new.items ≡ out.old.items }
 {
     for (decl, rows) in decls.iter().zip(pools) {
         push_pool(out, decl, rows.as_slice())?;
@@ -152,8 +175,9 @@ fn push_pools(out: &mut Vec<u8>, decls: &[Decl], pools: &[Rows]) -> Result<(), O
 }
 
 fn push_pool(out: &mut Vec<u8>, decl: &Decl, rows: &[(Entity, Row)]) -> Result<(), OutOfMemory>
-    ensures { OnOk result (out.new.items ≡
+    ensures ok { OnOk result (out.new.items ≡
         out.old.items ++ text_of version_1 (pool_lines version_1.profile (decl.now, rows.now))) }
+    ensures front { take (length out.old.items) out.new.items ≡ out.old.items }
 {
     out.extend_from_slice(b"pool ")?;
     out.extend_from_slice(decl.name.as_slice())?;
@@ -162,8 +186,9 @@ fn push_pool(out: &mut Vec<u8>, decl: &Decl, rows: &[(Entity, Row)]) -> Result<(
 }
 
 fn push_rows(out: &mut Vec<u8>, decl: &Decl, rows: &[(Entity, Row)]) -> Result<(), OutOfMemory>
-    ensures { OnOk result (out.new.items ≡
+    ensures ok { OnOk result (out.new.items ≡
         out.old.items ++ text_of version_1 (map (row_line version_1.profile decl.now) rows.now)) }
+    ensures front { take (length out.old.items) out.new.items ≡ out.old.items }
 {
     for entry in rows {
         push_row(out, decl, entry)?;
@@ -172,84 +197,12 @@ fn push_rows(out: &mut Vec<u8>, decl: &Decl, rows: &[(Entity, Row)]) -> Result<(
 }
 
 fn push_row(out: &mut Vec<u8>, decl: &Decl, entry: &(Entity, Row)) -> Result<(), OutOfMemory>
-    ensures { OnOk result (out.new.items ≡ out.old.items ++
+    ensures ok { OnOk result (out.new.items ≡ out.old.items ++
         (line_text version_1 (row_line version_1.profile decl.now entry.now) ++ 10 ∷ [])) }
+    ensures err { OnErr result (out.new.items ≡ out.old.items) }
 {
     let mut line = [0u8; ROOM];
     let at = write_row(decl, entry, &mut line);
     out.extend_from_slice(&line[at..])?;
     Ok(())
-}
-
-// Writes the line of a row at the end of the buffer, and says where it begins.
-fn write_row(decl: &Decl, entry: &(Entity, Row), line: &mut [u8; ROOM]) -> usize
-    ensures within { result ≤ 128 }
-    ensures written { drop result line.new ≡
-        line_text version_1 (row_line version_1.profile decl.now entry.now) ++ 10 ∷ [] }
-{
-    let values = write_row_end(decl, &entry.1, line);
-    let entity = entry.0.write_text(VERSION_1.profile, line, values);
-    write_word(b"row ", line, entity)
-}
-
-// Writes the values of a row and the end of its line at the end of the buffer, and says where they
-// begin.
-pub(super) fn write_row_end(decl: &Decl, row: &Row, line: &mut [u8; ROOM]) -> usize
-    ensures within { (39 ≤ result) × (result ≤ 127) }
-    ensures written { drop result line.new ≡
-        values_text version_1.profile (values_in version_1.profile decl.now row.now) ++ 10 ∷ [] }
-{
-    line[ROOM - 1] = b'\n';
-    write_values(decl.field_kinds(), &row.f, line, ROOM - 1)
-}
-
-// Writes the values of a row, each behind a space, as far as both slices go, so that they end at
-// `end`, and says where they begin.
-fn write_values(kinds: &[Kind], fields: &[i64], buf: &mut [u8], end: usize) -> usize
-    requires { (22 * length fields.now ≤ end) × (end ≤ length buf.old) }
-    ensures within { (result ≤ end) × (end ≤ result + 22 * length fields.now) }
-    ensures written { drop result buf.new ≡ values_text version_1.profile
-        (map (λ pair. value_in version_1.profile pair.0 pair.1) (zip kinds.now fields.now)) ++
-        drop end buf.old }
-{
-    let count = kinds.len().min(fields.len());
-    let mut at = end;
-    for place in (0..count).rev() {
-        at = write_value(kinds[place], fields[place], buf, at);
-    }
-    at
-}
-
-// Writes a space and a value so that they end at `end`, and says where they begin.
-fn write_value(kind: Kind, field: i64, buf: &mut [u8], end: usize) -> usize
-    requires { (22 ≤ end) × (end ≤ length buf.old) }
-    ensures within { (result ≤ end) × (end ≤ result + 22) }
-    ensures written { drop result buf.new ≡
-        32 ∷ value_text version_1.profile (value_in version_1.profile kind field) ++
-        drop end buf.old }
-{
-    let text = match kind {
-        Kind::Int => write_integer(field, buf, end),
-        Kind::Ref => Entity::from_field(VERSION_1.profile, field).write_text(
-            VERSION_1.profile,
-            buf,
-            end,
-        ),
-    };
-    buf[text - 1] = b' ';
-    text - 1
-}
-
-// Writes an integer so that it ends at `end`, and says where it begins.
-fn write_integer(number: i64, buf: &mut [u8], end: usize) -> usize
-    requires { (20 ≤ end) × (end ≤ length buf.old) }
-    ensures within { (result ≤ end) × (end ≤ result + 20) }
-    ensures written { drop result buf.new ≡ signed_decimal number ++ drop end buf.old }
-{
-    let digits = write_digits(number.unsigned_abs(), buf, end);
-    if number >= 0 {
-        return digits;
-    }
-    buf[digits - 1] = b'-';
-    digits - 1
 }

@@ -11,7 +11,8 @@ ghost use Rattle.world_text.specs.Lines.{values_text};
 ghost use Rattle.world_text.specs.Replies.{answer_word as word_of, refusal_text, reply_text, told_pool as pool_of};
 
 use super::format::VERSION_1;
-use super::printing::{ROOM, push_number, write_number, write_row_end, write_word};
+use super::printing::{ROOM, push_number, write_number, write_word};
+use super::row_printing::write_row_end;
 use entity_id::{Entity, OutOfMemory};
 use world_model::{Command, Decl, Refusal, Reply, Row};
 

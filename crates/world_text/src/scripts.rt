@@ -1,8 +1,9 @@
 //! A document with a script behind it, read whole.
 
 ghost use Rattle.std.specs.Prelude.{◌≡◌, ◌+◌, ◌≤◌, ℕ, List, length, IfOk, IfErr, MatchOption};
+ghost use Rattle.world_model.specs.Worlds.{component_limit};
 ghost use Rattle.world_text.specs.declared.script.ScriptLine.{ScriptLine};
-ghost use Rattle.world_text.specs.Documents.{AreNamedDecls, IsLawfulDocument};
+ghost use Rattle.world_text.specs.Documents.{IsLawfulDocument};
 ghost use Rattle.world_text.specs.Formats.{version_1};
 ghost use Rattle.world_text.specs.Refusals.{IsScriptCause, IsScriptedCause, IsFarAtMost};
 ghost use Rattle.world_text.specs.Scripts.{IsLineFirst, IsScript, IsScripted};
@@ -35,7 +36,7 @@ pub fn read_script(alloc: Global, bytes: &[u8]) -> Result<(Document, Script), Te
 
 // The script that a text is.
 fn read_lines(alloc: Global, decls: &[Decl], text: &[u8]) -> Result<Script, TextRefused>
-    requires { AreNamedDecls decls.now }
+    requires { length decls.now ≤ component_limit }
     ensures script { IfOk result (IsScript version_1.profile decls.now text.now) }
     ensures cause { IfErr result (IsScriptCause version_1.profile decls.now text.now) }
     ensures far { IfErr result (IsFarAtMost (length text.now + 3)) }
@@ -66,7 +67,7 @@ fn next_line<'a>(
     decls: &[Decl],
     text: &'a [u8],
 ) -> Result<Option<(ScriptLine, &'a [u8])>, OutOfMemory>
-    requires { AreNamedDecls decls.now }
+    requires { length decls.now ≤ component_limit }
     ensures { IfOk result (λ found. MatchOption found
         ((line : ScriptLine) (rest : List ℕ) →
         IsLineFirst version_1.profile decls.now text.now line rest → ⊥)

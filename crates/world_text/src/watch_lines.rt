@@ -1,11 +1,11 @@
 //! Lines of a script that begin and end watches.
 
-ghost use Rattle.std.specs.Prelude.{◌≡◌, ◌≢◌, ◌++◌, ◌∷◌, ℕ, List, IfSome, IfNone, MatchOption};
+ghost use Rattle.std.specs.Prelude.{◌≡◌, ◌≢◌, ◌++◌, ◌∷◌, ◌≤◌, ℕ, List, IfSome, IfNone, MatchOption, length};
 ghost use Rattle.world_model.specs.declared.component.Decl.{Decl};
 ghost use Rattle.world_model.specs.declared.event.EventKind.{EventKind};
 ghost use Rattle.world_text.specs.declared.script.ScriptLine.{ScriptLine};
 ghost use Rattle.world_text.specs.declared.verbs.Verb.{Verb};
-ghost use Rattle.world_text.specs.Documents.{AreNamedDecls};
+ghost use Rattle.world_model.specs.Worlds.{component_limit};
 ghost use Rattle.world_text.specs.Formats.{version_1};
 ghost use Rattle.world_text.specs.Scripts.{event_word};
 ghost use Rattle.world_text.specs.ScriptReading.{IsLineBehind};
@@ -22,7 +22,7 @@ const UNWATCH_LIMIT: u64 = 4_294_967_295;
 
 /// The line of the word `watch`, and what stands behind its end.
 pub fn take_watch<'a>(decls: &[Decl], text: &'a [u8]) -> Option<(ScriptLine, &'a [u8])>
-    requires { AreNamedDecls decls.now }
+    requires { length decls.now ≤ component_limit }
     ensures some { IfSome result (λ x.
         IsLineBehind version_1.profile decls.now Verb.Watch text.now x.0 x.1.now) }
     ensures none { IfNone result ((line : ScriptLine) (rest : List ℕ) →

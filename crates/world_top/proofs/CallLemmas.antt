@@ -4,9 +4,9 @@ use Rattle.std.specs.Prelude.{IsTrue}
 use Rattle.entity_id.specs.declared.entity.Profile.{Profile}
 use Rattle.entity_id.specs.Identifiers.{p20_12}
 use Rattle.registry.specs.Held.{Held}
-use Rattle.registry.specs.Running.{IsRun, is_served}
+use Rattle.registry.specs.Running.{Asks, IsRun, is_served}
 use Rattle.world_model.specs.declared.command.Command.{Command}
-use Rattle.world_model.specs.declared.command.Command.TheVariants.{Group, Members, SortPool, SortGroup}
+use Rattle.world_model.specs.declared.command.Command.TheVariants.{Emplace, EmplaceOrReplace, Replace, Patch, View, Group, Members, SortPool, SortGroup}
 use Rattle.world_model.specs.declared.command.Reply.{Reply}
 use Rattle.world_model.specs.declared.component.Decl.{Decl}
 use Rattle.world_model.specs.declared.world.World.{World}
@@ -25,9 +25,18 @@ served profile decls _ is = refl
 pub read_served : (decls : List Decl) (line : List ℕ) (c : Command) → IsCommandText p20_12 decls line c → IsTrue (is_served c)
 read_served decls line c read = served p20_12 decls c read.is
 
-pub read_allowed : (w : World) (decls : List Decl) (line : List ℕ) (c : Command) → IsCommandText p20_12 decls line c → w.decls ≡ decls → w.profile ≡ p20_12 → IsAllowed w c
-read_allowed w decls line c read same profile =
-    line_allowed w c (subst (λ (p : Profile). IsCommandLine p w.decls c) (sym profile) (subst (λ (ds : List Decl). IsCommandLine p20_12 ds c) (sym same) read.is))
+-- what may be written in a script is what its call asks
+asks : (w : World) (c : Command) → IsAllowed w c → Asks w c
+asks w (Emplace entity pool row) h = h.fit
+asks w (EmplaceOrReplace entity pool row) h = h.fit
+asks w (Replace entity pool row) h = h.fit
+asks w (Patch entity pool field value) h = h.fit
+asks w (View all without) h = h.some
+asks w _ h = tt
+
+pub read_asks : (w : World) (decls : List Decl) (line : List ℕ) (c : Command) → IsCommandText p20_12 decls line c → w.decls ≡ decls → w.profile ≡ p20_12 → Asks w c
+read_asks w decls line c read same profile =
+    asks w c (line_allowed w c (subst (λ (p : Profile). IsCommandLine p w.decls c) (sym profile) (subst (λ (ds : List Decl). IsCommandLine p20_12 ds c) (sym same) read.is)))
 
 -- what a command leaves as it was
 pub record Keeps (old new : Held) : Type 0 where
@@ -44,7 +53,7 @@ run_keeps old new c reply (inl is) =
       profile = ap (λ (w : World). w.profile) is.0.world ∙ same.profile;
     }
 run_keeps old new c reply (inr is) = record {
-  limit = is.2.limit;
-  decls = ap (λ (w : World). w.decls) is.2.world;
-  profile = ap (λ (w : World). w.profile) is.2.world;
+  limit = is.3.unchanged.limit;
+  decls = ap (λ (w : World). w.decls) is.3.unchanged.world;
+  profile = ap (λ (w : World). w.profile) is.3.unchanged.world;
 }

@@ -4,6 +4,7 @@ pub mod DisconnectLemmas
 pub mod FrontLemmas
 pub mod HearingLemmas
 pub mod LastWatches
+pub mod LawLemmas
 pub mod LiveLemmas
 pub mod PlayLemmas
 pub mod ProgressLemmas

@@ -2,3 +2,4 @@ pub mod Output
 pub mod Endings
 pub mod Playing
 pub mod Watched
+pub mod Starting

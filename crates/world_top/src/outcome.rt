@@ -1,5 +1,8 @@
 ghost use Rattle.std.specs.Prelude.{◌≡◌};
+ghost use Rattle.std.specs.Process.{exit_status};
 ghost use Rattle.world_top.specs.Endings.{number_of};
+
+use std::process::ExitCode;
 
 /// How a call of the program ended.
 #[derive(Clone, Copy, Debug, PartialEq, Eq)]
@@ -45,5 +48,14 @@ impl Outcome {
             Outcome::OutOfMemory => 7,
         };
         Status { number }
+    }
+}
+
+impl Status {
+    /// The code with which a process of this status exits. No memory.
+    pub fn exit_code(self) -> ExitCode
+        ensures { exit_status result ≡ self.number }
+    {
+        ExitCode::from(self.number)
     }
 }

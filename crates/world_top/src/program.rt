@@ -1,5 +1,6 @@
 ghost use Rattle.std.specs.Prelude.{◌≡◌};
-ghost use Rattle.world_top.specs.Endings.{Ends};
+ghost use Rattle.ecs_io.specs.Streams.{Grows, GrowsByFront, Rose};
+ghost use Rattle.world_top.specs.Endings.{Ends, fault_line, number_of};
 
 use super::perform::perform;
 use super::reporting::report;
@@ -65,7 +66,16 @@ pub fn plain<S: Source, K: Sink, E: Sink>(
         Some(verb) => perform(alloc, verb, source, sink),
         None => Outcome::Usage,
     };
-    // A line that can't be written changes no status.
+    end(faults, outcome)
+}
+
+/// Tells an outcome, and gives its status. A line that can't be written changes no status.
+pub fn end<E: Sink>(faults: &mut E, outcome: Outcome) -> Status
+    ensures status { result.number ≡ number_of outcome }
+    ensures front { GrowsByFront (E.holds faults.old) (E.holds faults.new) (fault_line outcome) }
+    ensures whole { (Rose (E.faults faults.old) (E.faults faults.new) → ⊥) →
+        Grows (E.holds faults.old) (E.holds faults.new) (fault_line outcome) }
+{
     let _ = report(faults, outcome);
     outcome.status()
 }

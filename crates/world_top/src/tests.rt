@@ -1,12 +1,20 @@
+//! Calls of the program over streams in memory: how they end, what they write and what they tell.
+
 ghost use Rattle.std.specs.Prelude.{◌≤◌};
 
 use super::*;
 use ecs_io::{MemSink, MemSource};
 use entity_id::Counts;
+use std::alloc::Global;
+use std::process::Abort;
 use std::test::Fail;
 
 mod apply;
 mod calls;
+mod snapshot;
+mod starting;
+mod texts;
+mod watches;
 
 const EMPTY: &[u8] = b"world 1\ntick 0\nend\n";
 
@@ -18,34 +26,39 @@ struct Run {
     faults: MemSink,
 }
 
-fn counts(rt: &HostRuntime, numbers: &[u64]) -> Result<Counts, Fail> {
-    Ok(Counts::from_vec(Vec::from_slice(rt.alloc(), numbers)?))
+fn counts(alloc: Global, numbers: &[u64]) -> Result<Counts, Fail> {
+    Ok(Counts::from_vec(Vec::from_slice(alloc, numbers)?))
 }
 
-fn source(rt: &HostRuntime, bytes: &[u8], piece: usize, fails: &[u64]) -> Result<MemSource, Fail>
+fn source(alloc: Global, bytes: &[u8], piece: usize, fails: &[u64]) -> Result<MemSource, Fail>
     requires { 1 ≤ piece }
 {
-    let bytes = Vec::from_slice(rt.alloc(), bytes)?;
-    Ok(MemSource::new(bytes, piece, counts(rt, fails)?))
+    let bytes = Vec::from_slice(alloc, bytes)?;
+    Ok(MemSource::new(bytes, piece, counts(alloc, fails)?))
 }
 
-fn sink(rt: &HostRuntime, room: usize) -> Result<MemSink, Fail> {
-    Ok(MemSink::new(rt.alloc(), room, 7, counts(rt, &[])?)?)
+fn sink(alloc: Global, room: usize) -> Result<MemSink, Fail> {
+    Ok(MemSink::new(alloc, room, 7, counts(alloc, &[])?)?)
+}
+
+fn list_of(alloc: Global, words: &[&str]) -> Result<Vec<String>, Fail> {
+    let mut list = Vec::new(alloc);
+    for word in words {
+        list.push(String::from_str(alloc, word)?)?;
+    }
+    Ok(list)
 }
 
 fn plain_run(
-    rt: &HostRuntime,
+    alloc: Global,
     words: &[&str],
     mut source: MemSource,
     room: usize,
 ) -> Result<Run, Fail> {
-    let mut list = Vec::new(rt.alloc());
-    for word in words {
-        list.push(String::from_str(rt.alloc(), word)?)?;
-    }
-    let mut output = sink(rt, room)?;
-    let mut faults = sink(rt, 100)?;
-    let status = plain(rt.alloc(), &list, &mut source, &mut output, &mut faults).number;
+    let list = list_of(alloc, words)?;
+    let mut output = sink(alloc, room)?;
+    let mut faults = sink(alloc, 100)?;
+    let status = plain(alloc, &list, &mut source, &mut output, &mut faults).number;
     Ok(Run {
         status,
         output,
@@ -53,96 +66,39 @@ fn plain_run(
     })
 }
 
-#[test]
-fn a_document_is_printed(rt: HostRuntime) -> Result<(), Fail> {
-    let run = plain_run(&rt, &["snapshot"], source(&rt, EMPTY, 4, &[])?, 100)?;
-    assert_eq!(rt; run.status, 0);
-    assert_eq!(rt; run.output.bytes(), EMPTY);
-    assert_eq!(rt; run.faults.bytes(), b"".as_slice());
+fn expect(rt: &impl Abort, run: &Run, status: u8, output: &[u8], told: &[u8]) {
+    assert_eq!(rt; run.status, status);
+    assert!(rt; run.output.bytes() == output);
+    assert!(rt; run.faults.bytes() == told);
+}
+
+// A command's run on an input, whose output fits.
+fn run_on(alloc: Global, command: &str, input: &[u8]) -> Result<Run, Fail> {
+    plain_run(alloc, &[command], source(alloc, input, 64, &[])?, 1 << 26)
+}
+
+// Whether each input is answered with the output beside it.
+fn try_printed(
+    rt: &impl Abort,
+    alloc: Global,
+    command: &str,
+    rows: &[(&[u8], &[u8])],
+) -> Result<(), Fail> {
+    for (input, output) in rows {
+        expect(rt, &run_on(alloc, command, input)?, 0, output, b"");
+    }
     Ok(())
 }
 
-#[test]
-fn the_first_bad_line_is_told(rt: HostRuntime) -> Result<(), Fail> {
-    let rows: [(&[u8], &[u8]); 6] = [
-        (b"world 1\ntick 0\n", b"world: line 3\n"),
-        (
-            b"world 1\ncomponent a\ntick 0\nfree 0\nnext 0\npool a\nrow 0:0\nend\n",
-            b"world: line 7\n",
-        ),
-        (
-            b"world 1\ntick 0\nfree 0\nfree 0\nnext 1\nnext 1\nend\n",
-            b"world: line 6\n",
-        ),
-        (b"world 1\ntick 0\nfree 0\nend\n", b"world: line 4\n"),
-        (b"world 1\ntick 0\nend\nend\n", b"world: line 4\n"),
-        (b"", b"world: line 1\n"),
-    ];
+// Whether each input is answered with a bad line, which is told as it stands beside it.
+fn try_bad(
+    rt: &impl Abort,
+    alloc: Global,
+    command: &str,
+    rows: &[(&[u8], &[u8])],
+) -> Result<(), Fail> {
     for (input, told) in rows {
-        let run = plain_run(&rt, &["snapshot"], source(&rt, input, 64, &[])?, 100)?;
-        assert_eq!(rt; run.status, 3);
-        assert_eq!(rt; run.output.bytes(), b"".as_slice());
-        assert_eq!(rt; run.faults.bytes(), told);
+        expect(rt, &run_on(alloc, command, input)?, 3, b"", told);
     }
-    Ok(())
-}
-
-#[test]
-fn a_failed_read_is_told(rt: HostRuntime) -> Result<(), Fail> {
-    let run = plain_run(&rt, &["snapshot"], source(&rt, EMPTY, 4, &[1])?, 100)?;
-    assert_eq!(rt; run.status, 4);
-    assert_eq!(rt; run.output.bytes(), b"".as_slice());
-    assert_eq!(rt; run.faults.bytes(), b"world: read fault\n".as_slice());
-    Ok(())
-}
-
-#[test]
-fn a_full_sink_is_told(rt: HostRuntime) -> Result<(), Fail> {
-    let run = plain_run(&rt, &["snapshot"], source(&rt, EMPTY, 4, &[])?, 10)?;
-    assert_eq!(rt; run.status, 5);
-    assert_eq!(rt; run.output.bytes(), b"world 1\nti".as_slice());
-    assert_eq!(rt; run.faults.bytes(), b"world: write fault\n".as_slice());
-    Ok(())
-}
-
-#[test]
-fn an_input_past_the_limit_is_told(rt: HostRuntime) -> Result<(), Fail> {
-    let bytes = vec![in rt.alloc(); b'a'; 67_108_865]?;
-    let long = MemSource::new(bytes, 1 << 20, counts(&rt, &[])?);
-    let run = plain_run(&rt, &["snapshot"], long, 100)?;
-    assert_eq!(rt; run.status, 6);
-    assert_eq!(rt; run.output.bytes(), b"".as_slice());
-    assert_eq!(rt; run.faults.bytes(), b"world: input too long\n".as_slice());
-    Ok(())
-}
-
-#[test]
-fn other_words_are_no_command(rt: HostRuntime) -> Result<(), Fail> {
-    let rows: [&[&str]; 4] = [&[], &["Snapshot"], &["snapshot", "snapshot"], &["--help"]];
-    for words in rows {
-        let run = plain_run(&rt, words, source(&rt, EMPTY, 4, &[])?, 100)?;
-        assert_eq!(rt; run.status, 2);
-        assert_eq!(rt; run.output.bytes(), b"".as_slice());
-        assert_eq!(rt; run.faults.bytes(), b"world: usage\n".as_slice());
-    }
-    Ok(())
-}
-
-#[test]
-fn top_does_what_plain_does(rt: HostRuntime) -> Result<(), Fail> {
-    let words = vec![in rt.alloc(); String::from_str(rt.alloc(), "snapshot")?]?;
-    let mut input = source(&rt, EMPTY, 5, &[])?;
-    let mut output = sink(&rt, 100)?;
-    let mut faults = sink(&rt, 100)?;
-    let status = top(
-        &rt,
-        rt.alloc(),
-        &words,
-        &mut input,
-        &mut output,
-        &mut faults,
-    );
-    assert_eq!(rt; status.number, 0);
-    assert_eq!(rt; output.bytes(), EMPTY);
     Ok(())
 }

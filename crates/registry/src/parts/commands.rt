@@ -2,10 +2,11 @@
 
 ghost use Rattle.std.specs.Prelude.{◌≡◌, IsTrue};
 ghost use Rattle.world_model.specs.declared.command.Reply.TheVariants.{Done, Made, Number, Truth, Values, Listed};
-ghost use Rattle.world_model.specs.Conditions.{IsAllowed};
+ghost use Rattle.registry.specs.Costs.{RunsWithin};
 ghost use Rattle.registry.specs.Layout.{world_of, held_of, IsKept};
-ghost use Rattle.registry.specs.Running.{is_question, is_served, reply_by, IsRun};
+ghost use Rattle.registry.specs.Running.{is_question, is_served, reply_by, Asks, IsRun};
 
+use super::width::is_wide;
 use super::{Parts, clearing, components, creation, leaving, queries, viewing};
 use entity_id::{Entities, Entity};
 use signal_sink::Listener;
@@ -20,22 +21,26 @@ pub fn run<L: Listener, G: Ledger>(
     steps: &mut Steps<G>,
 ) -> Reply
     requires consistent { IsKept parts.old }
-    requires allowed { IsAllowed (world_of parts.old) command.now }
+    requires asked { Asks (world_of parts.old) command.now }
     requires served { IsTrue (is_served command.now) }
     ensures consistent { IsKept parts.new }
     ensures run { IsRun (held_of parts.old) (held_of parts.new) command.now result }
+    ensures steps { RunsWithin (world_of parts.old) command.now steps.old steps.new }
 {
     match command {
         Command::Create => made(creation::create(parts)),
         Command::Hint { entity } => made(creation::create_hint(parts, *entity)),
         Command::Destroy { entity } => done(leaving::destroy(parts, *entity, steps)),
         Command::Emplace { entity, pool, row } => {
+            is_wide(row);
             done(components::emplace(parts, *entity, *pool, *row, steps))
         }
         Command::EmplaceOrReplace { entity, pool, row } => {
+            is_wide(row);
             done(components::emplace_or_replace(parts, *entity, *pool, *row, steps))
         }
         Command::Replace { entity, pool, row } => {
+            is_wide(row);
             done(components::replace(parts, *entity, *pool, *row))
         }
         Command::Patch {
@@ -56,7 +61,7 @@ pub fn run<L: Listener, G: Ledger>(
 // Carries out a command that changes nothing.
 fn ask<L: Listener>(parts: &Parts<L>, command: &Command) -> Reply
     requires consistent { IsKept parts.now }
-    requires allowed { IsAllowed (world_of parts.now) command.now }
+    requires asked { Asks (world_of parts.now) command.now }
     requires question { IsTrue (is_question command.now) }
     ensures { IsRun (held_of parts.now) (held_of parts.now) command.now result }
 {

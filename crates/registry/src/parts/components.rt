@@ -1,12 +1,15 @@
 //! The commands on one row.
 
-ghost use Rattle.std.specs.Prelude.{◌≡◌, ◌≢◌, ◌+◌, ◌≤◌, Some, IfOk, IfErr, OnOk, OnErr};
+ghost use Rattle.std.specs.Prelude.{◌≡◌, ◌≢◌, ◌+◌, ◌&&◌, not, Some, if◌then◌else◌, is_ok, Err, IfOk, IfErr, OnOk, OnErr};
 ghost use Rattle.world_model.specs.declared.command.Command.TheVariants.{Emplace, EmplaceOrReplace, Replace, Patch, Remove, Erase};
 ghost use Rattle.world_model.specs.declared.command.Reply.TheVariants.{Done, Number, Refused};
+ghost use Rattle.world_model.specs.declared.refusal.Refusal.{Refusal};
 ghost use Rattle.world_model.specs.Components.{with_field};
 ghost use Rattle.world_model.specs.Conditions.{IsAllowed};
+ghost use Rattle.world_model.specs.Contents.{has_row};
 ghost use Rattle.registry.specs.Held.{Does, AsBefore, reply_to, refusal_to};
 ghost use Rattle.registry.specs.Layout.{world_of, held_of, IsKept};
+ghost use Rattle.registry.specs.Packing.{Repacks};
 
 use super::Parts;
 use super::refusing::{entry_refusal, has_row, row_of};
@@ -34,7 +37,11 @@ pub fn emplace<L: Listener, G: Ledger>(
     ensures err { OnErr result (AsBefore (held_of parts.old) (held_of parts.new)) }
     ensures cause { IfErr result (λ refused. refused ≢ Refusal.OutOfMemory →
         refusal_to (held_of parts.old) (Emplace entity pool row) ≡ Some refused) }
-    ensures steps { steps.new ≤ steps.old + 1 }
+    ensures refused { (cause : Refusal) →
+        refusal_to (held_of parts.old) (Emplace entity pool row) ≡ Some cause → result ≡ Err cause }
+    ensures packed { OnOk result
+        (Repacks (held_of parts.old) (held_of parts.new) (Emplace entity pool row)) }
+    ensures steps { steps.new ≡ steps.old + (if is_ok result then 1 else 0) }
 {
     match entry_refusal(parts, entity, pool) {
         Some(refused) => Err(refused),
@@ -58,6 +65,10 @@ pub fn replace<L: Listener>(
     ensures err { OnErr result (AsBefore (held_of parts.old) (held_of parts.new)) }
     ensures cause { IfErr result (λ refused. refused ≢ Refusal.OutOfMemory →
         refusal_to (held_of parts.old) (Replace entity pool row) ≡ Some refused) }
+    ensures refused { (cause : Refusal) →
+        refusal_to (held_of parts.old) (Replace entity pool row) ≡ Some cause → result ≡ Err cause }
+    ensures packed { OnOk result
+        (Repacks (held_of parts.old) (held_of parts.new) (Replace entity pool row)) }
 {
     match entry_refusal(parts, entity, pool) {
         Some(refused) => Err(refused),
@@ -83,7 +94,12 @@ pub fn emplace_or_replace<L: Listener, G: Ledger>(
     ensures err { OnErr result (AsBefore (held_of parts.old) (held_of parts.new)) }
     ensures cause { IfErr result (λ refused. refused ≢ Refusal.OutOfMemory →
         refusal_to (held_of parts.old) (EmplaceOrReplace entity pool row) ≡ Some refused) }
-    ensures steps { steps.new ≤ steps.old + 1 }
+    ensures refused { (cause : Refusal) →
+        refusal_to (held_of parts.old) (EmplaceOrReplace entity pool row) ≡ Some cause → result ≡ Err cause }
+    ensures packed { OnOk result
+        (Repacks (held_of parts.old) (held_of parts.new) (EmplaceOrReplace entity pool row)) }
+    ensures steps { steps.new ≡ steps.old
+        + (if is_ok result && not (has_row (world_of parts.old) pool entity) then 1 else 0) }
 {
     match entry_refusal(parts, entity, pool) {
         Some(refused) => Err(refused),
@@ -110,6 +126,10 @@ pub fn patch<L: Listener>(
     ensures err { OnErr result (AsBefore (held_of parts.old) (held_of parts.new)) }
     ensures cause { IfErr result (λ refused. refused ≢ Refusal.OutOfMemory →
         refusal_to (held_of parts.old) (Patch entity pool field value) ≡ Some refused) }
+    ensures refused { (cause : Refusal) →
+        refusal_to (held_of parts.old) (Patch entity pool field value) ≡ Some cause → result ≡ Err cause }
+    ensures packed { OnOk result
+        (Repacks (held_of parts.old) (held_of parts.new) (Patch entity pool field value)) }
 {
     if let Some(refused) = entry_refusal(parts, entity, pool) {
         return Err(refused);
@@ -145,7 +165,11 @@ pub fn remove<L: Listener, G: Ledger>(
         reply_to (held_of parts.old) (Remove entity pool) ≡ Number count) }
     ensures err { IfErr result (λ refused.
         reply_to (held_of parts.old) (Remove entity pool) ≡ Refused refused) }
-    ensures steps { steps.new ≤ steps.old + 1 }
+    ensures unchanged { OnErr result (AsBefore (held_of parts.old) (held_of parts.new)) }
+    ensures packed { OnOk result
+        (Repacks (held_of parts.old) (held_of parts.new) (Remove entity pool)) }
+    ensures steps { IfOk result (λ count. steps.new ≡ steps.old + count) }
+    ensures no_steps { OnErr result (steps.new ≡ steps.old) }
 {
     match entry_refusal(parts, entity, pool) {
         Some(refused) => Err(refused),
@@ -167,7 +191,10 @@ pub fn erase<L: Listener, G: Ledger>(
     ensures ok { OnOk result (reply_to (held_of parts.old) (Erase entity pool) ≡ Done) }
     ensures err { IfErr result (λ refused.
         reply_to (held_of parts.old) (Erase entity pool) ≡ Refused refused) }
-    ensures steps { steps.new ≤ steps.old + 1 }
+    ensures unchanged { OnErr result (AsBefore (held_of parts.old) (held_of parts.new)) }
+    ensures packed { OnOk result
+        (Repacks (held_of parts.old) (held_of parts.new) (Erase entity pool)) }
+    ensures steps { steps.new ≡ steps.old + (if is_ok result then 1 else 0) }
 {
     match entry_refusal(parts, entity, pool) {
         Some(refused) => Err(refused),

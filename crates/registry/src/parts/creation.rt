@@ -1,10 +1,12 @@
 //! Entities made.
 
-ghost use Rattle.std.specs.Prelude.{◌≡◌, ◌≢◌, Some, IfOk, IfErr, OnOk, OnErr};
+ghost use Rattle.std.specs.Prelude.{◌≡◌, ◌≢◌, [], Some, Err, IsTrue, IfOk, IfErr, OnOk, OnErr};
 ghost use Rattle.world_model.specs.declared.command.Command.TheVariants.{Create, Hint};
 ghost use Rattle.world_model.specs.declared.command.Reply.TheVariants.{Made};
+ghost use Rattle.world_model.specs.declared.refusal.Refusal.{Refusal};
 ghost use Rattle.registry.specs.Held.{Does, AsBefore, reply_to, refusal_to};
 ghost use Rattle.registry.specs.Layout.{held_of, IsKept};
+ghost use Rattle.registry.specs.Running.{hint_needs_slot};
 
 use super::Parts;
 use entity_id::Entity;
@@ -21,6 +23,10 @@ pub fn create<L: Listener>(parts: &mut Parts<L>) -> Result<Entity, Refusal>
     ensures err { OnErr result (AsBefore (held_of parts.old) (held_of parts.new)) }
     ensures cause { IfErr result (λ refused. refused ≢ Refusal.OutOfMemory →
         refusal_to (held_of parts.old) Create ≡ Some refused) }
+    ensures refused { (cause : Refusal) →
+        refusal_to (held_of parts.old) Create ≡ Some cause → result ≡ Err cause }
+    ensures packed { (held_of parts.new).packed ≡ (held_of parts.old).packed }
+    ensures reuse { OnErr result (parts.old.slots.free ≡ []) }
 {
     match parts.slots.create() {
         Ok(entity) => Ok(entity),
@@ -38,6 +44,10 @@ pub fn create_hint<L: Listener>(parts: &mut Parts<L>, hint: Entity) -> Result<En
     ensures err { OnErr result (AsBefore (held_of parts.old) (held_of parts.new)) }
     ensures cause { IfErr result (λ refused. refused ≢ Refusal.OutOfMemory →
         refusal_to (held_of parts.old) (Hint hint) ≡ Some refused) }
+    ensures refused { (cause : Refusal) →
+        refusal_to (held_of parts.old) (Hint hint) ≡ Some cause → result ≡ Err cause }
+    ensures packed { (held_of parts.new).packed ≡ (held_of parts.old).packed }
+    ensures reuse { OnErr result (IsTrue (hint_needs_slot (held_of parts.old) hint)) }
 {
     match parts.slots.create_hint(hint) {
         Ok(entity) => Ok(entity),

@@ -1,12 +1,14 @@
 //! Entities destroyed.
 
-ghost use Rattle.std.specs.Prelude.{◌≡◌, ◌+◌, ◌<◌, ◌≤◌, ◌^◌, length, map, OnOk, IfErr};
+ghost use Rattle.std.specs.Prelude.{◌≡◌, ◌+◌, ◌<◌, ◌≤◌, ◌^◌, length, map, count_by, OnOk, OnErr, IfErr};
 ghost use Rattle.entity_id.specs.FiniteMap as entries;
 ghost use Rattle.world_model.specs.declared.command.Command.TheVariants.{Destroy};
 ghost use Rattle.world_model.specs.declared.command.Reply.TheVariants.{Done, Refused};
-ghost use Rattle.registry.specs.Held.{Does, reply_to};
-ghost use Rattle.registry.specs.Layout.{maps_of, held_of, HaveRoom, IsKept};
+ghost use Rattle.registry.specs.Costs.{destroy_steps};
+ghost use Rattle.registry.specs.Held.{Does, AsBefore, reply_to};
+ghost use Rattle.registry.specs.Layout.{maps_of, packed_of, world_of, held_of, HaveRoom, IsKept};
 ghost use Rattle.registry.specs.Leaving.{Leave};
+ghost use Rattle.registry.specs.Packing.{popped, Repacks};
 
 use super::Parts;
 use super::one_pool::leave;
@@ -29,7 +31,10 @@ pub fn destroy<L: Listener, G: Ledger>(
     ensures ok { OnOk result (reply_to (held_of parts.old) (Destroy entity) ≡ Done) }
     ensures err { IfErr result (λ refused.
         reply_to (held_of parts.old) (Destroy entity) ≡ Refused refused) }
-    ensures steps { steps.new ≤ steps.old + length parts.old.decls }
+    ensures unchanged { OnErr result (AsBefore (held_of parts.old) (held_of parts.new)) }
+    ensures packed { OnOk result
+        (Repacks (held_of parts.old) (held_of parts.new) (Destroy entity)) }
+    ensures steps { steps.new ≤ steps.old + destroy_steps (world_of parts.old) entity }
 {
     if !parts.slots.valid(entity) {
         return Err(Refusal::Dead);
@@ -53,9 +58,11 @@ fn leave_all<L: Listener, G: Ledger>(
         ≡ map (λ rows. entries.remove rows entity) (maps_of pools.old.items) }
     ensures hearings { Leave entity (maps_of pools.old.items) signals.old.items signals.new.items }
     ensures room { HaveRoom pools.new.items signals.new.items }
+    ensures packed { packed_of pools.new.items ≡ map (popped entity) (packed_of pools.old.items) }
     ensures pool_each { length pools.new.items ≡ length pools.old.items }
     ensures signal_each { length signals.new.items ≡ length signals.old.items }
-    ensures steps { steps.new ≤ steps.old + length pools.old.items }
+    ensures steps { steps.new ≡ steps.old
+        + count_by (λ rows. entries.contains rows entity) (maps_of pools.old.items) }
 {
     let mut left = pools.len();
     while left > 0 {

@@ -1,11 +1,9 @@
 //! Registries of worlds.
 
-ghost use Rattle.std.specs.Prelude.{◌≡◌, ◌<◌, [], IfOk, OnOk};
-ghost use Rattle.std.specs.List.{AllByRecursion};
-ghost use Rattle.entity_id.specs.FiniteMap as entries;
+ghost use Rattle.std.specs.Prelude.{◌≡◌, ◌<◌, [], IfOk};
 ghost use Rattle.world_model.specs.Worlds.{IsLawful};
 ghost use Rattle.registry.specs.Held.{unheard};
-ghost use Rattle.registry.specs.Layout.{maps_of, held_of, IsKept};
+ghost use Rattle.registry.specs.Layout.{pairs_of, held_of, IsKept};
 
 use super::Parts;
 use super::copying::copy_decls;
@@ -46,8 +44,7 @@ pub fn load<L: Listener>(
 
 // The pools of these rows. Nobody counts the steps.
 fn load_pools(alloc: Global, pools: &[Rows]) -> Result<Vec<Storage<Row>>, OutOfMemory>
-    requires { AllByRecursion entries.IsAscending pools.now }
-    ensures { IfOk result (λ loaded. maps_of loaded.items ≡ pools.now) }
+    ensures { IfOk result (λ loaded. pairs_of loaded.items ≡ pools.now) }
 {
     load_counted::<Brand>(alloc, pools, Blank::new(1))
 }
@@ -57,11 +54,10 @@ fn load_counted<G: Ledger>(
     pools: &[Rows],
     blank: Blank,
 ) -> Result<Vec<Storage<Row>>, OutOfMemory>
-    requires ascending { AllByRecursion entries.IsAscending pools.now }
     requires name { blank.name ≡ G.name }
     requires parts { blank.parts ≡ G.parts }
     requires some { 0 < blank.parts }
-    ensures { IfOk result (λ loaded. maps_of loaded.items ≡ pools.now) }
+    ensures { IfOk result (λ loaded. pairs_of loaded.items ≡ pools.now) }
 {
     let mut steps = Steps::<G>::new(blank);
     let mut loaded = Vec::with_capacity(alloc, pools.len())?;
@@ -77,8 +73,7 @@ fn load_rows<G: Ledger>(
     rows: &[(Entity, Row)],
     steps: &mut Steps<G>,
 ) -> Result<Storage<Row>, OutOfMemory>
-    requires { entries.IsAscending rows.now }
-    ensures { IfOk result (λ storage. entries.map_of storage.pairs ≡ rows.now) }
+    ensures { IfOk result (λ storage. storage.pairs ≡ rows.now) }
 {
     let mut storage = Storage::new(alloc);
     for entry in rows {

@@ -6,7 +6,7 @@ ghost use Rattle.entity_id.specs.Identifiers.{is_profile};
 ghost use Rattle.world_model.specs.Components.{IsDecl};
 ghost use Rattle.world_model.specs.Worlds.{component_limit, empty_world};
 ghost use Rattle.registry.specs.Held.{unheard};
-ghost use Rattle.registry.specs.Layout.{maps_of, held_of, IsKept, AreMadeOf};
+ghost use Rattle.registry.specs.Layout.{pairs_of, held_of, IsKept, AreMadeOf};
 
 use super::Parts;
 use entity_id::{OutOfMemory, Profile};
@@ -62,7 +62,7 @@ pub fn unheard_parts<L: Listener>(
 }
 
 fn empty_pools(alloc: Global, count: usize) -> Result<Vec<Storage<Row>>, OutOfMemory>
-    ensures { IfOk result (λ pools. maps_of pools.items ≡ replicate count []) }
+    ensures { IfOk result (λ pools. pairs_of pools.items ≡ replicate count []) }
 {
     let mut pools = Vec::with_capacity(alloc, count)?;
     for _made in 0..count {

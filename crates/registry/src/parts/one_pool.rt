@@ -1,12 +1,13 @@
 //! One pool and its signals: a row added, set, removed, and the listeners that hear of it.
 
-ghost use Rattle.std.specs.Prelude.{◌≡◌, ◌≢◌, ◌+◌, ◌≤◌, length, IsTrue, false, if◌then◌else◌, OnOk, OnErr, IfErr, IfSome};
+ghost use Rattle.std.specs.Prelude.{◌≡◌, ◌≢◌, ◌+◌, [], ◌∷◌, ◌++◌, length, IsTrue, false, if◌then◌else◌, is_ok, Err, OnOk, OnErr, IfErr};
+ghost use Rattle.std.specs.Bool.{OnFalse};
 ghost use Rattle.entity_id.specs.FiniteMap as entries;
-ghost use Rattle.entity_id.specs.PackedLists.{place_of, swap_popped};
 ghost use Rattle.signal_sink.specs.Hearings.{HaveSpare, heard_lists, heard_also};
 ghost use Rattle.world_model.specs.declared.event.EventKind.TheVariants as event;
 ghost use Rattle.world_model.specs.Outcomes.{tells};
 ghost use Rattle.registry.specs.Leaving.{hearings_after};
+ghost use Rattle.registry.specs.Packing.{popped};
 
 use entity_id::Entity;
 use signal_sink::{Listener, Signal};
@@ -27,6 +28,8 @@ pub fn enter<L: Listener, G: Ledger>(
     requires { HaveSpare (length pool.old.pairs) destroy.old }
     ensures map { OnOk result (entries.map_of pool.new.pairs
         ≡ entries.put (entries.map_of pool.old.pairs) told.entity row) }
+    ensures keys { OnOk result
+        (entries.keys pool.new.pairs ≡ entries.keys pool.old.pairs ++ told.entity ∷ []) }
     ensures absent { OnOk result
         (entries.contains (entries.map_of pool.old.pairs) told.entity ≡ false) }
     ensures heard { OnOk result
@@ -35,9 +38,11 @@ pub fn enter<L: Listener, G: Ledger>(
     ensures heard_err { OnErr result (heard_lists construct.new ≡ heard_lists construct.old) }
     ensures cause { IfErr result (λ refused. refused ≢ Refusal.OutOfMemory →
         (refused ≡ Refusal.Present) × IsTrue (entries.contains (entries.map_of pool.old.pairs) told.entity)) }
+    ensures present { IsTrue (entries.contains (entries.map_of pool.old.pairs) told.entity) →
+        result ≡ Err Refusal.Present }
     ensures quiet { heard_lists destroy.new ≡ heard_lists destroy.old }
     ensures room { HaveSpare (length pool.new.pairs) destroy.new }
-    ensures steps { steps.new ≤ steps.old + 1 }
+    ensures steps { steps.new ≡ steps.old + (if is_ok result then 1 else 0) }
 {
     if pool.contains(told.entity) {
         return Err(Refusal::Present);
@@ -72,6 +77,9 @@ pub fn change<L: Listener>(
     ensures heard_err { OnErr result (heard_lists update.new ≡ heard_lists update.old) }
     ensures cause { IfErr result (λ refused. refused ≢ Refusal.OutOfMemory →
         (refused ≡ Refusal.Absent) × (entries.contains (entries.map_of pool.old.pairs) told.entity ≡ false)) }
+    ensures not_held { entries.contains (entries.map_of pool.old.pairs) told.entity ≡ false →
+        result ≡ Err Refusal.Absent }
+    ensures keys { entries.keys pool.new.pairs ≡ entries.keys pool.old.pairs }
     ensures len { length pool.new.pairs ≡ length pool.old.pairs }
 {
     if !pool.contains(told.entity) {
@@ -97,8 +105,9 @@ pub fn leave<L: Listener, G: Ledger>(
     ensures was { result ≡ entries.contains (entries.map_of pool.old.pairs) entity }
     ensures map { entries.map_of pool.new.pairs
         ≡ entries.remove (entries.map_of pool.old.pairs) entity }
-    ensures keys { IfSome (place_of (entries.keys pool.old.pairs) entity) (λ place.
-        entries.keys pool.new.pairs ≡ swap_popped (entries.keys pool.old.pairs) place) }
+    ensures keys { entries.keys pool.new.pairs ≡ popped entity (entries.keys pool.old.pairs) }
+    ensures stays { OnFalse result
+        (entries.keys pool.new.pairs ≡ entries.keys pool.old.pairs) }
     ensures hearings { destroy.new
         ≡ hearings_after number entity (entries.map_of pool.old.pairs) destroy.old }
     ensures room { HaveSpare (length pool.new.pairs) destroy.new }

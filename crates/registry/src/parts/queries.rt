@@ -2,11 +2,11 @@
 
 ghost use Rattle.std.specs.Prelude.{◌≡◌, ◌<◌, ◌≤◌, length, IfOk, IfErr, OnOk};
 ghost use Rattle.std.specs.List.{list_all, list_any};
-ghost use Rattle.std.specs.List.Sorted.{IsPermutation};
 ghost use Rattle.entity_id.specs.FiniteMap as entries;
 ghost use Rattle.world_model.specs.declared.command.Command.TheVariants.{Get, AllOf, AnyOf, Orphan};
 ghost use Rattle.world_model.specs.declared.command.Reply.TheVariants.{Truth, Values, Refused};
-ghost use Rattle.world_model.specs.Contents.{has_row, pool_at};
+ghost use Rattle.world_model.specs.Contents.{has_row};
+ghost use Rattle.world_model.specs.Groups.{packed_at};
 ghost use Rattle.registry.specs.Held.{reply_to};
 ghost use Rattle.registry.specs.Layout.{world_of, held_of, IsKept};
 
@@ -96,8 +96,7 @@ fn is_held(pools: &[Storage<Row>], entity: Entity) -> bool
 // The identifiers of a pool, in packed order.
 pub fn entities<L: Listener>(parts: &Parts<L>, pool: u32) -> Result<&[Entity], Refusal>
     requires { IsKept parts.now }
-    ensures ok { IfOk result (λ list.
-        IsPermutation (entries.keys (pool_at (world_of parts.now) pool)) list.now) }
+    ensures ok { IfOk result (λ list. list.now ≡ packed_at (held_of parts.now).packed pool) }
     ensures declared { OnOk result (pool < length parts.now.decls) }
     ensures err { IfErr result (λ refused.
         (refused ≡ Refusal.NoPool) × (length parts.now.decls ≤ pool)) }

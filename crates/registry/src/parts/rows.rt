@@ -1,13 +1,15 @@
 //! A row of one pool added, set, removed.
 
-ghost use Rattle.std.specs.Prelude.{◌≡◌, ◌≢◌, ◌+◌, ◌<◌, ◌≤◌, length, Some, None, false, IsTrue, if◌then◌else◌, OnOk, OnErr, IfErr};
+ghost use Rattle.std.specs.Prelude.{◌≡◌, ◌≢◌, ◌+◌, ◌<◌, length, Some, None, if◌then◌else◌, is_ok, Err, OnOk, OnErr, IfErr};
 ghost use Rattle.std.specs.Bool.{OnTrue, OnFalse};
 ghost use Rattle.world_model.specs.declared.command.Reply.TheVariants.{Done};
 ghost use Rattle.world_model.specs.declared.event.EventKind.TheVariants as event;
+ghost use Rattle.world_model.specs.declared.refusal.Refusal.{Refusal};
 ghost use Rattle.world_model.specs.Contents.{has_row};
 ghost use Rattle.world_model.specs.Outcomes.{sets, drops};
 ghost use Rattle.world_model.specs.Refusing.{when_present, when_absent};
-ghost use Rattle.registry.specs.Layout.{world_of, IsKept, Gives, Stays};
+ghost use Rattle.registry.specs.Layout.{world_of, packed_of, IsKept, Gives, Stays};
+ghost use Rattle.registry.specs.Packing.{appended_in, popped_in};
 
 use super::Parts;
 use super::one_pool::{change, enter, leave};
@@ -33,7 +35,11 @@ pub fn put_row<L: Listener, G: Ledger>(
     ensures err { OnErr result (Stays parts.old parts.new) }
     ensures cause { IfErr result (λ refused. refused ≢ Refusal.OutOfMemory →
         when_present (world_of parts.old) pool entity ≡ Some refused) }
-    ensures steps { steps.new ≤ steps.old + 1 }
+    ensures refused { (cause : Refusal) →
+        when_present (world_of parts.old) pool entity ≡ Some cause → result ≡ Err cause }
+    ensures packed { OnOk result (packed_of parts.new.pools.items
+        ≡ appended_in pool entity (packed_of parts.old.pools.items)) }
+    ensures steps { steps.new ≡ steps.old + (if is_ok result then 1 else 0) }
 {
     let at = pool as usize;
     let told = Event {
@@ -66,6 +72,9 @@ pub fn change_row<L: Listener>(
     ensures err { OnErr result (Stays parts.old parts.new) }
     ensures cause { IfErr result (λ refused. refused ≢ Refusal.OutOfMemory →
         when_absent (world_of parts.old) pool entity ≡ Some refused) }
+    ensures refused { (cause : Refusal) →
+        when_absent (world_of parts.old) pool entity ≡ Some cause → result ≡ Err cause }
+    ensures packed { packed_of parts.new.pools.items ≡ packed_of parts.old.pools.items }
 {
     let at = pool as usize;
     let told = Event {
@@ -89,7 +98,9 @@ pub fn drop_row<L: Listener, G: Ledger>(
     ensures gone { OnTrue result
         (Gives parts.old parts.new (drops (world_of parts.old) entity pool Done)) }
     ensures none { OnFalse result (Stays parts.old parts.new) }
-    ensures steps { steps.new ≤ steps.old + 1 }
+    ensures packed { packed_of parts.new.pools.items
+        ≡ popped_in pool entity (packed_of parts.old.pools.items) }
+    ensures steps { steps.new ≡ steps.old + (if result then 1 else 0) }
 {
     let at = pool as usize;
     leave(

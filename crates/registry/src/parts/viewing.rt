@@ -1,9 +1,10 @@
 //! Entities that are in several pools.
 
-ghost use Rattle.std.specs.Prelude.{◌≡◌, ◌≢◌, ◌<◌, ◌++◌, length, filter, Some, IsTrue, IfOk, IfErr};
+ghost use Rattle.std.specs.Prelude.{◌≡◌, ◌≢◌, ◌<◌, ◌++◌, length, filter, Some, Err, IsTrue, IfOk, IfErr};
 ghost use Rattle.entity_id.specs.Matching.{is_match, matches};
 ghost use Rattle.world_model.specs.declared.command.Command.TheVariants.{View};
 ghost use Rattle.world_model.specs.declared.command.Reply.TheVariants.{Listed};
+ghost use Rattle.world_model.specs.declared.refusal.Refusal.{Refusal};
 ghost use Rattle.world_model.specs.Contents.{keys_of};
 ghost use Rattle.world_model.specs.Groups.{are_declared};
 ghost use Rattle.world_model.specs.Refusing.{when_no_pool};
@@ -29,6 +30,9 @@ pub fn view<L: Listener>(
         reply_to (held_of parts.now) (View all.now without.now) ≡ Listed list) }
     ensures cause { IfErr result (λ refused. refused ≢ Refusal.OutOfMemory →
         refusal_to (held_of parts.now) (View all.now without.now) ≡ Some refused) }
+    ensures refused { (cause : Refusal) →
+        refusal_to (held_of parts.now) (View all.now without.now) ≡ Some cause →
+        result ≡ Err cause }
 {
     let (all, without) = (all.as_slice(), without.as_slice());
     match view_refusal(parts, all, without) {

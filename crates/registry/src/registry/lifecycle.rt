@@ -1,13 +1,17 @@
 //! Registries made, and entities made and destroyed.
 
-ghost use Rattle.std.specs.Prelude.{◌≡◌, ◌≢◌, ◌+◌, ◌≤◌, [], length, Some, IsTrue, IfOk, IfErr, OnOk, OnErr};
+ghost use Rattle.std.specs.Prelude.{◌≡◌, ◌≢◌, ◌+◌, ◌≤◌, [], vec_len, Some, Err, IsTrue, IfOk, IfErr, OnOk, OnErr};
 ghost use Rattle.std.specs.List.{AllByRecursion};
 ghost use Rattle.entity_id.specs.Identifiers.{is_profile};
 ghost use Rattle.world_model.specs.declared.command.Command.TheVariants.{Create, Hint, Destroy, Valid};
 ghost use Rattle.world_model.specs.declared.command.Reply.TheVariants.{Done, Made, Refused, Truth};
+ghost use Rattle.world_model.specs.declared.refusal.Refusal.{Refusal};
 ghost use Rattle.world_model.specs.Components.{IsDecl};
 ghost use Rattle.world_model.specs.Worlds.{IsLawful, component_limit, empty_world};
+ghost use Rattle.registry.specs.Costs.{destroy_steps};
 ghost use Rattle.registry.specs.Held.{unheard, Does, AsBefore, reply_to, refusal_to};
+ghost use Rattle.registry.specs.Packing.{Repacks};
+ghost use Rattle.registry.specs.Running.{hint_needs_slot};
 
 use super::Registry;
 use crate::parts::{creation, leaving, loading, making, saving};
@@ -16,7 +20,7 @@ use signal_sink::Listener;
 use sparse_set::Steps;
 use std::alloc::Global;
 use std::sync::ledger::Ledger;
-use world_model::{DeclList, Refusal, World};
+use world_model::{Decl, DeclList, Refusal, World};
 
 impl<L: Listener> Registry<L> {
     /// A registry of these components, with no entity and with no listener, which keeps the
@@ -28,16 +32,16 @@ impl<L: Listener> Registry<L> {
         alloc: Global,
         profile: Profile,
         slot_limit: u32,
-        decls: DeclList,
+        decls: Vec<Decl>,
     ) -> Result<Registry<L>, OutOfMemory>
         requires profile { IsTrue (is_profile profile) }
         requires addressable { slot_limit ≤ profile.index_limit }
-        requires few { length decls ≤ component_limit }
-        requires decls { AllByRecursion IsDecl decls }
+        requires few { vec_len decls ≤ component_limit }
+        requires decls { AllByRecursion IsDecl decls.items }
         ensures { IfOk result (λ registry.
-            registry ≡ unheard slot_limit (empty_world profile decls)) }
+            registry ≡ unheard slot_limit (empty_world profile decls.items)) }
     {
-        let parts = making::new(alloc, profile, slot_limit, decls)?;
+        let parts = making::new(alloc, profile, slot_limit, DeclList::from_vec(decls))?;
         Ok(Registry { parts })
     }
 
@@ -68,13 +72,18 @@ impl<L: Listener> Registry<L> {
 
     /// Makes an identifier: the index that was released last with its next version, or a new index
     /// with version 0 where none is free. `Full` exactly where none is free and the slots are as
-    /// many as may be, and `OutOfMemory`. Takes memory. (EnTT: `registry.create()`.)
+    /// many as may be; `OutOfMemory` only where a new slot was needed. Where an index is free it is
+    /// never refused, and takes no memory. (EnTT: `registry.create()`.)
     pub fn create(&mut self) -> Result<Entity, Refusal>
         ensures ok { OnOk result (Does self.old self.new Create) }
         ensures reply { IfOk result (λ entity. reply_to self.old Create ≡ Made entity) }
         ensures err { OnErr result (AsBefore self.old self.new) }
         ensures cause { IfErr result (λ refused. refused ≢ Refusal.OutOfMemory →
             refusal_to self.old Create ≡ Some refused) }
+        ensures refused { (cause : Refusal) →
+            refusal_to self.old Create ≡ Some cause → result ≡ Err cause }
+        ensures packed { OnOk result (Repacks self.old self.new Create) }
+        ensures reuse { OnErr result (self.old.world.free ≡ []) }
     {
         creation::create(&mut self.parts)
     }
@@ -82,20 +91,27 @@ impl<L: Listener> Registry<L> {
     /// Makes the identifier that is hinted at, where its index is below the slot limit and not live,
     /// and its version is below the version limit; else as [`Registry::create`], and refused as that.
     /// An index past the last slot makes the indices before it free, with version 0, and the
-    /// greatest is reused first. `OutOfMemory` too. Takes memory. (EnTT: `registry.create(hint)`.)
+    /// greatest is reused first. `OutOfMemory` only where a new slot was needed; a hint at a free index
+    /// is never refused. (EnTT: `registry.create(hint)`.)
     pub fn create_hint(&mut self, hint: Entity) -> Result<Entity, Refusal>
         ensures ok { OnOk result (Does self.old self.new (Hint hint)) }
         ensures reply { IfOk result (λ entity. reply_to self.old (Hint hint) ≡ Made entity) }
         ensures err { OnErr result (AsBefore self.old self.new) }
         ensures cause { IfErr result (λ refused. refused ≢ Refusal.OutOfMemory →
             refusal_to self.old (Hint hint) ≡ Some refused) }
+        ensures refused { (cause : Refusal) →
+            refusal_to self.old (Hint hint) ≡ Some cause → result ≡ Err cause }
+        ensures packed { OnOk result (Repacks self.old self.new (Hint hint)) }
+        ensures reuse { OnErr result (IsTrue (hint_needs_slot self.old hint)) }
     {
         creation::create_hint(&mut self.parts, hint)
     }
 
     /// Takes an entity out of every pool, the last one first, and its identifier out of use. Each
     /// listener of a pool that it leaves hears of its row's destruction once. `Dead` exactly where it
-    /// is not live. At most one step for each pool. No memory. (EnTT: `registry.destroy(entity)`.)
+    /// is not live. At each pool that it is in, the last identifier of the packed list takes its
+    /// place: at most one step for each, where no group names the pool. No memory. (EnTT:
+    /// `registry.destroy(entity)`.)
     pub fn destroy<G: Ledger>(
         &mut self,
         entity: Entity,
@@ -105,7 +121,9 @@ impl<L: Listener> Registry<L> {
         ensures ok { OnOk result (reply_to self.old (Destroy entity) ≡ Done) }
         ensures err { IfErr result (λ refused.
             reply_to self.old (Destroy entity) ≡ Refused refused) }
-        ensures steps { steps.new ≤ steps.old + length self.old.world.decls }
+        ensures unchanged { OnErr result (AsBefore self.old self.new) }
+        ensures packed { OnOk result (Repacks self.old self.new (Destroy entity)) }
+        ensures steps { steps.new ≤ steps.old + destroy_steps self.old.world entity }
     {
         leaving::destroy(&mut self.parts, entity, steps)
     }

@@ -1,12 +1,11 @@
 //! What changes nothing.
 
-ghost use Rattle.std.specs.Prelude.{◌≡◌, ◌≢◌, Some, ◌<◌, ◌≤◌, length, OnOk, IfOk, IfErr, IfSome, IsSome};
+ghost use Rattle.std.specs.Prelude.{◌≡◌, ◌≢◌, Some, Err, ◌<◌, ◌≤◌, length, OnOk, IfOk, IfErr, IfSome, IsSome};
 ghost use Rattle.std.specs.Option.{IfNone};
-ghost use Rattle.std.specs.List.Sorted.{IsPermutation};
-ghost use Rattle.entity_id.specs.FiniteMap as entries;
 ghost use Rattle.world_model.specs.declared.command.Command.TheVariants.{Get, AllOf, AnyOf, Orphan, Alive, Size, View};
 ghost use Rattle.world_model.specs.declared.command.Reply.TheVariants.{Listed, Number, Refused, Truth, Values};
-ghost use Rattle.world_model.specs.Contents.{pool_at};
+ghost use Rattle.world_model.specs.declared.refusal.Refusal.{Refusal};
+ghost use Rattle.world_model.specs.Groups.{packed_at};
 ghost use Rattle.registry.specs.Held.{reply_to, refusal_to};
 
 use super::Registry;
@@ -80,15 +79,17 @@ impl<L: Listener> Registry<L> {
             reply_to self.now (View all.now without.now) ≡ Listed list) }
         ensures cause { IfErr result (λ refused. refused ≢ Refusal.OutOfMemory →
             refusal_to self.now (View all.now without.now) ≡ Some refused) }
+        ensures refused { (cause : Refusal) →
+            refusal_to self.now (View all.now without.now) ≡ Some cause → result ≡ Err cause }
     {
         viewing::view(&self.parts, all, without)
     }
 
-    /// The identifiers of a pool in packed order, which its changes make and which nothing else says.
-    /// `NoPool` exactly where the pool is not declared. No memory. (EnTT: `storage.data()`.)
+    /// The identifiers of a pool in packed order: each call says where its own changes leave them
+    /// (`specs/Packing.antt`). `NoPool` exactly where the pool is not declared. No memory. (EnTT:
+    /// `storage.data()`.)
     pub fn entities(&self, pool: u32) -> Result<&[Entity], Refusal>
-        ensures ok { IfOk result (λ list.
-            IsPermutation (entries.keys (pool_at self.now.world pool)) list.now) }
+        ensures ok { IfOk result (λ list. list.now ≡ packed_at self.now.packed pool) }
         ensures declared { OnOk result (pool < length self.now.world.decls) }
         ensures err { IfErr result (λ refused.
             (refused ≡ Refusal.NoPool) × (length self.now.world.decls ≤ pool)) }

@@ -1,8 +1,8 @@
 //! Commands carried out.
 
 ghost use Rattle.std.specs.Prelude.{IsTrue};
-ghost use Rattle.world_model.specs.Conditions.{IsAllowed};
-ghost use Rattle.registry.specs.Running.{is_served, IsRun};
+ghost use Rattle.registry.specs.Costs.{RunsWithin};
+ghost use Rattle.registry.specs.Running.{is_served, Asks, IsRun};
 
 use super::Registry;
 use crate::parts::commands;
@@ -13,16 +13,17 @@ use world_model::{Command, Reply};
 
 impl<L: Listener> Registry<L> {
     /// Carries out a command and gives its reply: a refusal of the call that the command names is
-    /// `Reply::Refused`. Rows and values are such as that call asks for. A view names at least one
-    /// component that its entities are in, and at most 16 with those that they are not in. Groups,
-    /// their members and sorts are not carried out yet: the command is none of `Group`, `Members`,
-    /// `SortPool` and `SortGroup`. `OutOfMemory` where the call is refused so, which only `Create`,
-    /// `Hint`, `Emplace`, `EmplaceOrReplace`, `Replace`, `Patch` and `View` can be; then all is as
-    /// before. (This project's own.)
+    /// `Reply::Refused`. It asks what that call asks: a row or a value that fits, a view of at least one
+    /// component that its entities are in. Groups, their members and sorts are not carried out yet: the
+    /// command is none of `Group`, `Members`, `SortPool` and `SortGroup`. `OutOfMemory` where the call is
+    /// refused so, which only creations that need a new slot, `Emplace`, `EmplaceOrReplace`, `Replace`,
+    /// `Patch` and `View` can be, and only where nothing else refuses it; then all is as before. At most
+    /// as many steps as the call. (This project's own.)
     pub fn run<G: Ledger>(&mut self, command: &Command, steps: &mut Steps<G>) -> Reply
-        requires allowed { IsAllowed self.old.world command.now }
+        requires asked { Asks self.old.world command.now }
         requires served { IsTrue (is_served command.now) }
-        ensures { IsRun self.old self.new command.now result }
+        ensures run { IsRun self.old self.new command.now result }
+        ensures steps { RunsWithin self.old.world command.now steps.old steps.new }
     {
         commands::run(&mut self.parts, command, steps)
     }

@@ -1,8 +1,9 @@
 //! Lines of scripts through the calls of the libraries: read, carried out on a registry, and answered.
 
-ghost use Rattle.std.specs.Prelude.{◌≡◌, ◌<◌};
+ghost use Rattle.std.specs.Prelude.{◌≡◌, ◌<◌, ◌≤◌};
 ghost use Rattle.entity_id.specs.Identifiers.{p20_12};
-ghost use Rattle.world_text.specs.Documents.{AreNamedDecls};
+ghost use Rattle.world_text.specs.Documents.{AreNamedDecls, IsLawfulDocument};
+ghost use Rattle.world_text.specs.Formats.{tick_limit, version_1};
 
 use super::*;
 use registry::Registry;
@@ -11,7 +12,7 @@ use sparse_set::Steps;
 use std::alloc::Global;
 use std::marker::Brand;
 use std::sync::ledger::{Blank, Ledger};
-use world_model::Decl;
+use world_model::{Decl, World};
 use world_text::{Document, VERSION_1, push_reply, push_world, read_command, read_front};
 
 // What these lines are answered behind a document, and then the text of the document that they leave.
@@ -27,22 +28,65 @@ fn answers<G: Ledger>(
 {
     let mut steps = Steps::<G>::new(blank);
     let front = read_front(alloc, document)?;
-    let world = front.document.world;
-    let mut registry = Registry::load(alloc, &world, VERSION_1.slot_limit)?;
     let mut out = Vec::new(alloc);
-    for line in lines {
-        answer(
-            alloc,
-            &mut registry,
-            world.decls.as_slice(),
-            line,
-            &mut out,
-            &mut steps,
-        )?;
-    }
-    let world = registry.save(world.tick)?;
-    push_world(&mut out, &Document { world })?;
+    answer_from(alloc, &front.document.world, lines, &mut out, &mut steps)?;
     Ok(out)
+}
+
+// Appends what lines are answered from this world on, and the text of the document that they leave.
+fn answer_from<G: Ledger>(
+    alloc: Global,
+    world: &World,
+    lines: &[&[u8]],
+    out: &mut Vec<u8>,
+    steps: &mut Steps<G>,
+) -> Result<(), Fail>
+    requires { IsLawfulDocument (record { world = world.now }) }
+{
+    let mut registry = Registry::load(alloc, world, VERSION_1.slot_limit)?;
+    answer_all(
+        alloc,
+        &mut registry,
+        world.decls.as_slice(),
+        lines,
+        out,
+        steps,
+    )?;
+    print(&registry, world.tick, out)
+}
+
+// Appends what lines are answered.
+fn answer_all<G: Ledger>(
+    alloc: Global,
+    registry: &mut Registry<Recorder>,
+    decls: &[Decl],
+    lines: &[&[u8]],
+    out: &mut Vec<u8>,
+    steps: &mut Steps<G>,
+) -> Result<(), Fail>
+    requires named { AreNamedDecls decls.now }
+    requires decls { registry.old.world.decls ≡ decls.now }
+    requires profile { registry.old.world.profile ≡ p20_12 }
+    ensures decls { registry.new.world.decls ≡ registry.old.world.decls }
+    ensures profile { registry.new.world.profile ≡ registry.old.world.profile }
+    ensures limit { registry.new.limit ≡ registry.old.limit }
+{
+    for line in lines {
+        answer(alloc, registry, decls, line, out, steps)?;
+    }
+    Ok(())
+}
+
+// Appends the text of the document that a registry stands for.
+fn print(registry: &Registry<Recorder>, tick: u64, out: &mut Vec<u8>) -> Result<(), Fail>
+    requires named { AreNamedDecls registry.now.world.decls }
+    requires profile { registry.now.world.profile ≡ p20_12 }
+    requires limit { registry.now.limit ≡ version_1.slot_limit }
+    requires tick { tick ≤ tick_limit }
+{
+    let world = registry.save(tick)?;
+    push_world(out, &Document { world })?;
+    Ok(())
 }
 
 // Carries out the command that a line spells, and appends its reply.

@@ -15,27 +15,26 @@ use Rattle.registry_uses.proofs.listening.heard_of_end.Goals as goal
 pub returns-in_err-recorder-clause-scene : goal.returns-in_err-recorder-clause-scene
 returns-in_err-recorder-clause-scene g c =
     let heard : IsScene c.connect.new.self = scene_stays c.args.registry.now c.connect.new.self c.requires c.in-Ok.ensures.rewired.limit c.in-Ok.ensures.rewired.world in
-    let gone : IsScene c.destroy-ended.new.self = scene_after c.connect.new.self c.destroy-ended.new.self (Destroy c.args.entity) heard tt refl c.destroy-ended.ensures.does in
+    let gone : IsScene c.destroy-ended.new.self = scene_after c.connect.new.self c.destroy-ended.new.self (Destroy c.args.entity) heard refl c.destroy-ended.ensures.does in
     scene_stays c.destroy-ended.new.self c.disconnect.new.self gone c.disconnect.ensures.rewired.limit c.disconnect.ensures.rewired.world
 
 pub returns-in_err-ended-clause-scene : goal.returns-in_err-ended-clause-scene
 returns-in_err-ended-clause-scene g c =
     let heard : IsScene c.connect.new.self = scene_stays c.args.registry.now c.connect.new.self c.requires c.in-Ok.ensures.rewired.limit c.in-Ok.ensures.rewired.world in
-    let gone : IsScene c.destroy-ended.new.self = scene_after c.connect.new.self c.destroy-ended.new.self (Destroy c.args.entity) heard tt refl c.destroy-ended.ensures.does in
+    let gone : IsScene c.destroy-ended.new.self = scene_after c.connect.new.self c.destroy-ended.new.self (Destroy c.args.entity) heard refl c.destroy-ended.ensures.does in
     scene_stays c.destroy-ended.new.self c.disconnect.new.self gone c.disconnect.ensures.rewired.limit c.disconnect.ensures.rewired.world
 
 pub returns-clause-scene : goal.returns-clause-scene
 returns-clause-scene g c =
     let heard : IsScene c.connect.new.self = scene_stays c.args.registry.now c.connect.new.self c.requires c.in-Ok.ensures.rewired.limit c.in-Ok.ensures.rewired.world in
-    let gone : IsScene c.destroy-ended.new.self = scene_after c.connect.new.self c.destroy-ended.new.self (Destroy c.args.entity) heard tt refl c.destroy-ended.ensures.does in
+    let gone : IsScene c.destroy-ended.new.self = scene_after c.connect.new.self c.destroy-ended.new.self (Destroy c.args.entity) heard refl c.destroy-ended.ensures.does in
     scene_stays c.destroy-ended.new.self c.disconnect.new.self gone c.disconnect.ensures.rewired.limit c.disconnect.ensures.rewired.world
 
 pub returns-clause-heard : goal.returns-clause-heard
 returns-clause-heard g c =
-    let scene : IsScene c.connect.new.self = scene_stays c.args.registry.now c.connect.new.self c.requires c.in-Ok.ensures.rewired.limit c.in-Ok.ensures.rewired.world in
     let connected : heard_lists (listeners_at c.connect.new.self event.Destroy POSITION) ≡ heard_lists (listeners_at c.args.registry.now event.Destroy POSITION) ++ Some [] ∷ [] = c.in-Ok.ensures.heard ∙ ap (λ (h : Hearing). heard_lists (listeners_at c.args.registry.now event.Destroy POSITION) ++ Some h.heard ∷ []) c.new.ensures in
     let done = was_done c.connect.new.self c.destroy-ended.new.self (Destroy c.args.entity) c.destroy-ended.ensures.does (ap is_refused c.in_ok-ended.ensures.ok) in
-    heard_of_place c.args.registry.now c.connect.new.self c.destroy-ended.new.self c.args.entity c.in-Ok.number c.in_ok-recorder.recorder scene c.in-Ok.ensures.rewired.world c.in-Ok.ensures.number connected c.destroy-ended.ensures.does done.passes c.in_ok-recorder.ensures.listener
+    heard_of_place c.args.registry.now c.connect.new.self c.destroy-ended.new.self c.args.entity c.in-Ok.number c.in_ok-recorder.recorder c.requires c.law.ensures.world c.in-Ok.ensures.rewired.world c.in-Ok.ensures.number connected c.destroy-ended.ensures.does done.passes c.in_ok-recorder.ensures.listener
 
 pub returns-in_err-recorder-clause-cause : goal.returns-in_err-recorder-clause-cause
 returns-in_err-recorder-clause-cause g c =
@@ -63,3 +62,8 @@ returns-in_err-ended-clause-used_by_dead g c =
     let connected : heard_lists (listeners_at c.connect.new.self event.Destroy POSITION) ≡ heard_lists (listeners_at c.args.registry.now event.Destroy POSITION) ++ Some [] ∷ [] = c.in-Ok.ensures.heard ∙ ap (λ (h : Hearing). heard_lists (listeners_at c.args.registry.now event.Destroy POSITION) ++ Some h.heard ∷ []) c.new.ensures in
     let used = one_used c.args.registry.now c.connect.new.self c.destroy-ended.new.self c.disconnect.new.self c.args.entity c.in-Ok.number connected c.destroy-ended.ensures.does c.in_ok-recorder.ensures.gone in
     search (rules, used)
+
+pub returns-in_err-recorder-clause-same_order : goal.returns-in_err-recorder-clause-same_order
+returns-in_err-recorder-clause-same_order g c =
+    let connected : heard_lists (listeners_at c.connect.new.self event.Destroy POSITION) ≡ heard_lists (listeners_at c.args.registry.now event.Destroy POSITION) ++ Some [] ∷ [] = c.in-Ok.ensures.heard ∙ ap (λ (h : Hearing). heard_lists (listeners_at c.args.registry.now event.Destroy POSITION) ++ Some h.heard ∷ []) c.new.ensures in
+    absurd (both_ways _ c.in_err-recorder.ensures.unknown (still_connected c.args.registry.now c.connect.new.self c.destroy-ended.new.self c.args.entity c.in-Ok.number c.in-Ok.ensures.number connected c.destroy-ended.ensures.does))

@@ -10,5 +10,6 @@ abbrev pub invariant-loop-entity : goal.invariant-loop-entity
 invariant-loop-entity g l = record {
   scene : IsScene l.registry;
   listed : l.entity-items ≡ matches (keys_of l.fn.registry.world) (POSITION ∷ VELOCITY ∷ []) (FROZEN ∷ []);
+  packed : l.registry.packed ≡ l.fn.registry.packed;
   moved : HaveMoved l.fn.registry.world l.registry.world (take l.entity-index l.entity-items);
 }

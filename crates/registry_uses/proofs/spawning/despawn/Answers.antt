@@ -8,18 +8,18 @@ use Rattle.registry_uses.proofs.SceneLemmas.{dead_after, dead_is_told, is_declar
 use Rattle.registry_uses.proofs.spawning.despawn.Goals as goal
 
 pub returns-clause-scene : goal.returns-clause-scene
-returns-clause-scene g c = scene_after c.args.registry.now c.destroy.new.self (Destroy c.args.entity) c.requires tt refl c.destroy.ensures.does
+returns-clause-scene g c = scene_after c.args.registry.now c.destroy.new.self (Destroy c.args.entity) c.requires refl c.destroy.ensures.does
 
 pub returns-clause-stale : goal.returns-clause-stale
 returns-clause-stale g c = ap Truth (ap (λ (w : World). is_live w.slots c.args.entity) c.destroy.ensures.does.world ∙ dead_after c.args.registry.now.limit c.args.registry.now.world c.args.entity)
 
 pub returns-clause-refused : goal.returns-clause-refused
 returns-clause-refused g c =
-    let scene = scene_after c.args.registry.now c.destroy.new.self (Destroy c.args.entity) c.requires tt refl c.destroy.ensures.does in
+    let scene = scene_after c.args.registry.now c.destroy.new.self (Destroy c.args.entity) c.requires refl c.destroy.ensures.does in
     dead_is_told c.destroy.new.self _ c.args.entity (is_declared c.destroy.new.self _ scene refl)
     (ap (λ (w : World). is_live w.slots c.args.entity) c.destroy.ensures.does.world ∙ dead_after c.args.registry.now.limit c.args.registry.now.world c.args.entity)
 
 pub returns-clause-others : goal.returns-clause-others
 returns-clause-others g c other apart live =
     ap (λ (w : World). is_live w.slots other) c.destroy.ensures.does.world
-    ∙ lives_on c.args.registry.now.limit c.args.registry.now.world (Destroy c.args.entity) other c.requires.lawful live (λ same. apart (of_destroys _ _ same))
+    ∙ lives_on c.args.registry.now.limit c.args.registry.now.world (Destroy c.args.entity) other c.law.ensures.world live (λ same. apart (of_destroys _ _ same))

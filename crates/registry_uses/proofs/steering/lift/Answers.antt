@@ -10,7 +10,7 @@ use Rattle.registry.proofs.DoneLemmas.{same}
 use Rattle.registry.proofs.ResultLemmas.{all_err, both_ok}
 use Rattle.registry_uses.specs.declared.beginning.TheConstants.{POSITION}
 use Rattle.registry_uses.specs.Moving.{lifted_height}
-use Rattle.registry_uses.proofs.RowLemmas.{given, may_lift, set_is_told}
+use Rattle.registry_uses.proofs.RowLemmas.{given, set_is_told}
 use Rattle.registry_uses.proofs.SceneLemmas.{scene_by, told_is, was_done}
 use Rattle.registry_uses.proofs.steering.lift.Goals as goal
 
@@ -21,7 +21,7 @@ pub returns-clause-scene : goal.returns-clause-scene
 returns-clause-scene g c =
     let old = c.args.registry.now in
     let value = given c.lifted.result (search (rules, c.lifted.type_inv)) in
-    scene_by old c.patch.new.self (Patch c.args.entity POSITION 1 c.lifted.result) c.patch.result c.requires (may_lift old _ c.requires c.lifted.ensures.wide) refl
+    scene_by old c.patch.new.self (Patch c.args.entity POSITION 1 c.lifted.result) c.patch.result c.requires refl
     (subst (λ (z : ℤ). OnOk c.patch.result (Does old c.patch.new.self (Patch c.args.entity POSITION 1 z))) value c.patch.ensures.ok) c.patch.ensures.err
 
 pub returns-clause-does : goal.returns-clause-does
@@ -40,4 +40,4 @@ returns-clause-lifted g c =
     both_ok c.patch.result (subst (λ (z : ℤ). OnOk c.patch.result (Does old c.patch.new.self (Patch c.args.entity POSITION 1 z))) height c.patch.ensures.ok)
     (subst (λ (z : ℤ). OnOk c.patch.result (reply_to old (Patch c.args.entity POSITION 1 z) ≡ Done)) height c.patch.ensures.reply) (λ does reply.
     let done = was_done old c.patch.new.self (Patch c.args.entity POSITION 1 lifted) does (ap is_refused reply) in
-    set_is_told old c.patch.new.self c.args.entity POSITION (with_field (row_at old.world POSITION c.args.entity) 1 lifted) (when_absent old.world POSITION c.args.entity) c.requires.lawful done.passes done.world)
+    set_is_told old c.patch.new.self c.args.entity POSITION (with_field (row_at old.world POSITION c.args.entity) 1 lifted) (when_absent old.world POSITION c.args.entity) c.law.ensures.world done.passes done.world)

@@ -7,7 +7,7 @@ use Rattle.world_text.proofs.command_lines.take_script_line.Goals as goal
 
 pub returns-in_default-clause-bad : goal.returns-in_default-clause-bad
 returns-in_default-clause-bad c = λ _.
-    no_verb version_1.profile c.args.decls.now c.args.text.now c.split_name.result.0.now c.split_name.result.1.now c.requires c.split_name.ensures c.in_default.ensures.none
+    no_verb version_1.profile c.args.decls.now c.args.text.now c.split_name.result.0.now c.split_name.result.1.now c.split_name.ensures c.in_default.ensures.none
 
 pub returns-clause-ok : goal.returns-clause-ok
 returns-clause-ok c =
@@ -17,4 +17,4 @@ returns-clause-ok c =
 
 pub returns-clause-bad : goal.returns-clause-bad
 returns-clause-bad c = λ bad line rest h.
-    c.take_behind.ensures.bad bad line rest (line_behind version_1.profile c.args.decls.now c.args.text.now c.split_name.result.0.now c.split_name.result.1.now c.in-Some.verb c.requires c.split_name.ensures c.in-Some.ensures.some line rest h)
+    c.take_behind.ensures.bad bad line rest (line_behind version_1.profile c.args.decls.now c.args.text.now c.split_name.result.0.now c.split_name.result.1.now c.in-Some.verb c.split_name.ensures c.in-Some.ensures.some line rest h)

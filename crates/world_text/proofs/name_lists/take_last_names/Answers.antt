@@ -5,9 +5,9 @@ use Rattle.world_text.proofs.name_lists.take_last_names.Goals as goal
 
 pub returns-then-is_empty-clause-bad : goal.returns-then-is_empty-clause-bad
 returns-then-is_empty-clause-bad c = λ _ all more h.
-    no_first_name c.args.decls.now c.args.others.now c.args.text.now c.in_ok-pools.pools.items c.in_ok-pools.rest.now c.requires.named c.in_ok-pools.ensures.ok
+    no_first_name c.args.decls.now c.args.others.now c.args.text.now c.in_ok-pools.pools.items c.in_ok-pools.rest.now c.in_ok-pools.ensures.ok
     (let none = eqb-true (vec_len c.in_ok-pools.pools) 0 (sym c.is_empty.ensures ∙ c.if-is_empty.true) in omega arith) all (10 ∷ more) h.names h.some
 
 pub returns-in_default-clause-bad : goal.returns-in_default-clause-bad
 returns-in_default-clause-bad c = λ _ all more h.
-    no_line_end c.args.decls.now c.args.others.now c.args.text.now c.in_ok-pools.pools.items c.in_ok-pools.rest.now c.requires.named c.in_ok-pools.ensures.ok c.in_default.ensures all more h
+    no_line_end c.args.decls.now c.args.others.now c.args.text.now c.in_ok-pools.pools.items c.in_ok-pools.rest.now c.in_ok-pools.ensures.ok c.in_default.ensures all more h

@@ -9,7 +9,7 @@ loop-pool-init c =
 
 pub returns-then-is_over-clause-bad : goal.returns-then-is_over-clause-bad
 returns-then-is_over-clause-bad c = λ _.
-    no_names c.args.decls.now c.args.others.now c.args.text.now c.loop-pool.pools.items c.loop-pool.rest.now c.in-Some.pool c.in-Some.behind.now c.requires.named c.loop-pool.invariant c.in-Some.ensures.some
+    no_names c.args.decls.now c.args.others.now c.args.text.now c.loop-pool.pools.items c.loop-pool.rest.now c.in-Some.pool c.in-Some.behind.now c.loop-pool.invariant c.in-Some.ensures.some
     (ap (λ (ps : List ℕ). is_over c.args.others.now ps c.in-Some.pool) (sym c.deref.ensures.value) ∙ sym c.is_over.ensures ∙ c.if-is_over.true)
 
 pub loop-pool-preserved : goal.loop-pool-preserved

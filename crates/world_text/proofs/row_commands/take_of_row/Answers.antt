@@ -9,7 +9,7 @@ returns-in_err-row-clause-none c =
     let at : slice_get c.args.decls.now c.in_ok-entity.pool ≡ Some c.index-decls-pool.result = found_at c.args.decls.now c.in_ok-entity.pool c.index-decls-pool.result c.in_ok-entity.ensures.within c.index-decls-pool.is in
     rw c.from_residual-in_err-row.ensures (λ line rest h.
     no_row version_1.profile c.args.decls.now c.args.text.now c.in_ok-entity.rest.now c.in_ok-entity.entity c.in_ok-entity.pool c.index-decls-pool.result c.field_kinds-kinds.result.now
-    (record { index = omega arith; version = omega arith }) c.requires c.in_ok-entity.ensures.some at c.field_kinds-kinds.ensures.value c.in_err-row.ensures.none h.0 h.1 h.2 rest h.3)
+    (record { index = omega arith; version = omega arith }) c.in_ok-entity.ensures.some at c.field_kinds-kinds.ensures.value c.field_kinds-kinds.ensures.few c.in_err-row.ensures.none h.0 h.1 h.2 rest h.3)
 
 pub returns-clause-some : goal.returns-clause-some
 returns-clause-some c =
@@ -18,6 +18,6 @@ returns-clause-some c =
       c.in_ok-entity.pool,
       c.in_ok-row.row,
       row_last version_1.profile c.args.decls.now c.args.text.now c.in_ok-entity.rest.now c.in_ok-row.rest.now c.in_ok-entity.entity c.in_ok-entity.pool c.index-decls-pool.result c.field_kinds-kinds.result.now c.in_ok-row.row
-          (record { index = omega arith; version = omega arith }) c.requires c.in_ok-entity.ensures.some at c.field_kinds-kinds.ensures.value c.in_ok-row.ensures.some,
+          (record { index = omega arith; version = omega arith }) c.in_ok-entity.ensures.some at c.field_kinds-kinds.ensures.value c.field_kinds-kinds.ensures.few c.in_ok-row.ensures.some,
       ap Run c.row_command.ensures,
     )

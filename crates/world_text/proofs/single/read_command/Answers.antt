@@ -19,7 +19,7 @@ pub returns-then-not-is_empty-clause-bad : goal.returns-then-not-is_empty-clause
 returns-then-not-is_empty-clause-bad c =
     let spelled : c.deref.result.now ≡ c.args.line.now ++ 10 ∷ [] = c.deref.ensures.value ∙ c.in_ok-push.ensures.items ∙ ap (λ (t : List ℕ). t ++ 10 ∷ []) c.in_ok-text.ensures.items in
     λ _ command h.
-    let same = one_line version_1.profile c.args.decls.now c.deref.result.now c.in_ok-line.rest.now [] c.in_ok-line.line (Run command) (record { index = omega arith; version = omega arith }) c.requires c.in_ok-line.ensures.ok
+    let same = one_line version_1.profile c.args.decls.now c.deref.result.now c.in_ok-line.rest.now [] c.in_ok-line.line (Run command) (record { index = omega arith; version = omega arith }) c.in_ok-line.ensures.ok
     (subst (λ (t : List ℕ). IsLineFirst version_1.profile c.args.decls.now t (Run command) []) (sym spelled) h) in
-    let empty : c.is_empty.result ≡ true = c.is_empty.ensures ∙ ap (λ (t : List ℕ). length t == 0) same.1 in
+    let empty : c.is_empty.result ≡ true = c.is_empty.ensures ∙ ap (λ (t : List ℕ). length t == 0) same.0 in
     absurd cc

@@ -1,7 +1,8 @@
-use Rattle.std.proofs.Common.{cond, None, refl, subst}
-use Rattle.std.proofs.Common.{OnOk}
+use Rattle.std.proofs.Common.{cond, None, Err, OnOk, refl, sym, ap, ◌∙◌, subst}
+use Rattle.std.proofs.lemmas.Option.{same_Some}
 use Rattle.world_model.specs.declared.command.Command.TheVariants.{EmplaceOrReplace}
 use Rattle.world_model.specs.declared.event.EventKind.TheVariants as event
+use Rattle.world_model.specs.declared.refusal.Refusal.{Refusal}
 use Rattle.world_model.specs.Outcomes.{sets}
 use Rattle.registry.specs.Layout.{world_of, held_of, Gives}
 use Rattle.registry.proofs.DoneLemmas.{same, entry_finished}
@@ -10,6 +11,9 @@ use Rattle.registry.proofs.parts.components.emplace_or_replace.Goals as goal
 
 pub returns-in-Some-clause-err : goal.returns-in-Some-clause-err
 returns-in-Some-clause-err g c = same (held_of c.args.parts.now)
+
+pub returns-in-Some-clause-refused : goal.returns-in-Some-clause-refused
+returns-in-Some-clause-refused g c cause is = ap (λ (r : Refusal). Err r) (same_Some c.in-Some.refused cause (sym (c.in-Some.ensures.cause None) ∙ is))
 
 pub returns-in-None-clause-consistent : goal.returns-in-None-clause-consistent
 returns-in-None-clause-consistent g c =

@@ -4,11 +4,14 @@ use Rattle.world_model.specs.declared.refusal.Refusal.TheVariants as refusal
 use Rattle.world_model.specs.Refusing.{refuse}
 use Rattle.registry.specs.Held.{refusal_to}
 use Rattle.registry.specs.Layout.{held_of}
-use Rattle.registry.proofs.DoneLemmas.{refused, did}
+use Rattle.registry.proofs.DoneLemmas.{same, refused, did}
 use Rattle.registry.proofs.parts.components.erase.Goals as goal
 
 pub returns-in-Some-clause-does : goal.returns-in-Some-clause-does
 returns-in-Some-clause-does g c = (refused (held_of c.args.parts.now) (Erase c.args.entity c.args.pool) c.in-Some.refused (c.in-Some.ensures.cause _)).0
+
+pub returns-in-Some-clause-unchanged : goal.returns-in-Some-clause-unchanged
+returns-in-Some-clause-unchanged g c = same (held_of c.args.parts.now)
 
 pub returns-in-None-clause-consistent : goal.returns-in-None-clause-consistent
 returns-in-None-clause-consistent g c =

@@ -4,7 +4,7 @@ use Rattle.world_model.specs.declared.refusal.Refusal.TheVariants as refusal
 use Rattle.world_model.specs.Refusing.{refuse}
 use Rattle.registry.specs.Held.{refusal_to}
 use Rattle.registry.specs.Layout.{held_of}
-use Rattle.registry.proofs.DoneLemmas.{did, stayed, with_slots, slots_changed}
+use Rattle.registry.proofs.DoneLemmas.{did, stayed, with_slots, slots_changed, slots_stayed}
 use Rattle.registry.proofs.parts.creation.create.Goals as goal
 
 pub returns-in-Ok-clause-consistent : goal.returns-in-Ok-clause-consistent
@@ -20,7 +20,7 @@ returns-in-Ok-clause-ok g c =
     (did old (with_slots old c.create.new.self) Create c.requires tt passes (slots_changed old c.create.new.self _ _ c.requires c.in-Ok.ensures.lists)).1
 
 pub returns-in-Err-Full-clause-err : goal.returns-in-Err-Full-clause-err
-returns-in-Err-Full-clause-err g c = (stayed c.args.parts.now _ c.requires (slots_changed c.args.parts.now c.create.new.self _ _ c.requires c.in-Err-Full.ensures.err)).1
+returns-in-Err-Full-clause-err g c = (stayed c.args.parts.now _ c.requires (slots_stayed c.args.parts.now c.create.new.self c.requires c.in-Err-Full.ensures.err)).1
 
 pub returns-in-Err-OutOfMemory-clause-err : goal.returns-in-Err-OutOfMemory-clause-err
-returns-in-Err-OutOfMemory-clause-err g c = (stayed c.args.parts.now _ c.requires (slots_changed c.args.parts.now c.create.new.self _ _ c.requires c.in-Err-OutOfMemory.ensures.err)).1
+returns-in-Err-OutOfMemory-clause-err g c = (stayed c.args.parts.now _ c.requires (slots_stayed c.args.parts.now c.create.new.self c.requires c.in-Err-OutOfMemory.ensures.err)).1

@@ -1,18 +1,28 @@
-use Rattle.std.proofs.Common.{◌≡◌, not, None, true, sym, ap, ◌∙◌}
+use Rattle.std.proofs.Common.{◌≡◌, not, None, true, sym, ap, ◌∙◌, arith}
 use Rattle.world_model.specs.declared.command.Command.TheVariants.{Destroy}
 use Rattle.world_model.specs.declared.refusal.Refusal.TheVariants as refusal
 use Rattle.world_model.specs.Refusing.{refuse}
+use Rattle.world_model.specs.Contents.{holders}
 use Rattle.world_model.specs.Slots.{is_live}
 use Rattle.registry.specs.Held.{refusal_to}
-use Rattle.registry.specs.Layout.{held_of}
+use Rattle.registry.specs.Layout.{held_of, world_of}
 use Rattle.registry.proofs.DestroyLemmas.{destroyed}
-use Rattle.registry.proofs.DoneLemmas.{refused, did}
+use Rattle.registry.proofs.DoneLemmas.{same, refused, did}
 use Rattle.registry.proofs.ResultLemmas.{on_ok}
+use Rattle.registry.proofs.StepLemmas.{held_count, one_each}
 use Rattle.registry.proofs.parts.leaving.destroy.Goals as goal
 
 pub returns-then-not-valid-clause-does : goal.returns-then-not-valid-clause-does
 returns-then-not-valid-clause-does g c =
     (refused (held_of c.args.parts.now) (Destroy c.args.entity) refusal.Dead (ap (λ b. refuse (not b) refusal.Dead) (sym c.if-not-valid.ensures))).0
+
+pub returns-then-not-valid-clause-unchanged : goal.returns-then-not-valid-clause-unchanged
+returns-then-not-valid-clause-unchanged g c = same (held_of c.args.parts.now)
+
+pub returns-clause-steps : goal.returns-clause-steps
+returns-clause-steps g c =
+    let w = world_of c.args.parts.now in
+    omega (arith, c.leave_all.ensures.steps, held_count w c.args.entity, one_each (holders w c.args.entity))
 
 pub returns-clause-consistent : goal.returns-clause-consistent
 returns-clause-consistent g c =

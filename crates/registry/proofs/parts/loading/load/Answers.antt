@@ -1,15 +1,6 @@
-use Rattle.std.proofs.Common.{sym, subst}
-use Rattle.std.specs.List.{AllByRecursion}
-use Rattle.entity_id.specs.FiniteMap as entries
 use Rattle.registry.proofs.FreshLemmas.{fresh_load}
-use Rattle.registry.proofs.MapListLemmas.{pools_ascend}
 use Rattle.registry.proofs.ResultLemmas.{if_ok}
 use Rattle.registry.proofs.parts.loading.load.Goals as goal
-
-pub load_pools-requires : goal.load_pools-requires
-load_pools-requires g c =
-    let world = c.args.world.now in
-    subst (AllByRecursion entries.IsAscending) (sym c.as_slice-3.ensures) (pools_ascend world.profile world.slots world.decls world.pools c.requires.lawful.pools)
 
 pub returns-clause-consistent : goal.returns-clause-consistent
 returns-clause-consistent g c =

@@ -1,6 +1,6 @@
 use Rattle.std.proofs.Common.{◌≡◌, [], replicate}
-use Rattle.registry.specs.Layout.{maps_of}
+use Rattle.registry.specs.Layout.{pairs_of}
 use Rattle.registry.proofs.parts.making.empty_pools.Given as goal
 
 abbrev pub invariant-loop-made : goal.invariant-loop-made
-invariant-loop-made l = maps_of l.pools.items ≡ replicate l._made []
+invariant-loop-made l = pairs_of l.pools.items ≡ replicate l._made []

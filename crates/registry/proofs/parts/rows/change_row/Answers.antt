@@ -1,5 +1,6 @@
 use Rattle.std.proofs.Common.{length}
 use Rattle.registry.proofs.PoolLemmas.{read_at, row_set, not_set}
+use Rattle.registry.proofs.PackingLemmas.{packed_stays}
 use Rattle.registry.proofs.ResultLemmas.{both_ok, both_err}
 use Rattle.registry.proofs.parts.rows.change_row.Goals as goal
 
@@ -22,3 +23,8 @@ returns-clause-err g c =
     both_err c.change.result c.change.ensures.err c.change.ensures.heard_err (λ same quiet. not_set old at c.index_mut.result.now c.change.new.pool (read_at old.pools.items (length old.decls) at _ h.pool_each low c.index_mut.ensures.value)
     c.index_mut-2.result.now c.change.new.update (read_at old.update.items (length old.decls) at _ h.update_each low c.index_mut-2.ensures.value)
     h c.change.ensures.len same quiet)
+
+pub returns-clause-packed : goal.returns-clause-packed
+returns-clause-packed g c =
+    let old = c.args.parts.now in
+    packed_stays old.pools.items c.args.pool c.index_mut.result.now c.change.new.pool (read_at old.pools.items (length old.decls) c.args.pool _ c.requires.consistent.pool_each c.requires.declared c.index_mut.ensures.value) c.change.ensures.keys

@@ -1,6 +1,7 @@
 use Rattle.std.proofs.Common.{length}
 use Rattle.registry.proofs.PoolLemmas.{read_at, entered, not_entered}
-use Rattle.registry.proofs.ResultLemmas.{both_ok, both_err}
+use Rattle.registry.proofs.PackingLemmas.{packed_appended}
+use Rattle.registry.proofs.ResultLemmas.{both_ok, both_err, then_ok}
 use Rattle.registry.proofs.parts.rows.put_row.Goals as goal
 
 pub enter-requires : goal.enter-requires
@@ -31,3 +32,8 @@ returns-clause-err g c =
     c.args.entity c.args.row c.index_mut-2.result.now c.enter.new.construct c.index_mut-3.result.now c.enter.new.destroy
     (read_at old.construct.items (length old.decls) at _ h.construct_each low c.index_mut-2.ensures.value) (read_at old.destroy.items (length old.decls) at _ h.destroy_each low c.index_mut-3.ensures.value)
     h c.enter.ensures.quiet c.enter.ensures.room same quiet)
+
+pub returns-clause-packed : goal.returns-clause-packed
+returns-clause-packed g c =
+    let old = c.args.parts.now in
+    then_ok c.enter.result c.enter.ensures.keys (packed_appended old.pools.items c.args.pool c.index_mut.result.now c.enter.new.pool c.args.entity (read_at old.pools.items (length old.decls) c.args.pool _ c.requires.consistent.pool_each c.requires.declared c.index_mut.ensures.value))

@@ -1,0 +1,16 @@
+-- What is true of every registry between two calls.
+use Rattle.std.specs.Prelude.{ℕ, length}
+use Rattle.signal_sink.specs.Hearings.{HaveSpare}
+use Rattle.world_model.specs.declared.event.EventKind.TheVariants as event
+use Rattle.world_model.specs.Contents.{keys_of, pool_at}
+use Rattle.world_model.specs.Groups.{ArePackedListsOf}
+use Rattle.world_model.specs.Worlds.{IsLawful}
+use Rattle.registry.specs.Held.{Held}
+use Rattle.registry.specs.Listeners.{listeners_at}
+
+-- a lawful registry: its world is lawful within its limit, each packed list has the identifiers that have a row in its pool, and
+-- each listener that hears of a pool's rows removed has room for them all
+pub record IsLawfulRegistry (held : Held) : Type 0 where
+  pub world : IsLawful held.limit held.world
+  pub packed : ArePackedListsOf (keys_of held.world) held.packed
+  pub room : (pool : ℕ) → HaveSpare (length (pool_at held.world pool)) (listeners_at held event.Destroy pool)

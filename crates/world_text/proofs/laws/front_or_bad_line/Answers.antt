@@ -1,0 +1,6 @@
+use Rattle.world_text.specs.Formats.{version_1}
+use Rattle.world_text.proofs.CompleteLemmas.{front_or_bad}
+use Rattle.world_text.proofs.laws.front_or_bad_line.Goals as goal
+
+pub returns : goal.returns
+returns c = front_or_bad version_1

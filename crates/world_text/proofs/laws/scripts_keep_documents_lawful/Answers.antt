@@ -1,5 +1,0 @@
-use Rattle.world_text.proofs.ScriptLemmas.{after_is_lawful}
-use Rattle.world_text.proofs.laws.scripts_keep_documents_lawful.Goals as goal
-
-pub returns : goal.returns
-returns c = after_is_lawful
