@@ -1,0 +1,5 @@
+mod DistinctLemmas
+mod FamilyLemmas
+mod PoolLemmas
+mod RelationLemmas
+mod WorldLemmas
