@@ -45,6 +45,7 @@ lawful_push groups decl h formed differs fits room = record {
 
 -- ---- one of them
 
+-- what a well-formed group owns and names
 pub record AreFormed (decl : GroupDecl) : Type 0 where
   pub owns : 0 < length decl.own
   pub once : are_distinct (group_pools decl) ≡ true

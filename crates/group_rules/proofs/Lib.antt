@@ -1,3 +1,4 @@
+mod AddLemmas
 mod DistinctLemmas
 mod FamilyLemmas
 mod PoolLemmas

@@ -1,5 +1,6 @@
 -- How groups stand to each other, which are lawful together, and why one more is refused.
-use Rattle.std.specs.Prelude.{if◌then◌else◌, ◌≤◌, ◌&&◌, not, nat_lt, Bool, ℕ, length, List, [], ◌∷◌, ◌++◌, Option, Some, None, is_some, IsTrue, IsFalse, AllPairs}
+use Rattle.std.specs.Prelude.{if◌then◌else◌, ◌≤◌, ◌&&◌, not, nat_lt, Bool, ℕ, length, List, [], ◌∷◌, ◌++◌, Option, Some, None, is_some, IsTrue}
+use Rattle.std.specs.Prelude.{IsFalse, AllPairs}
 use Rattle.std.specs.List.{AllByRecursion, position_from}
 use Rattle.std.specs.Option.{option_map, option_or, unwrap_or}
 use Rattle.world_model.specs.declared.group.GroupDecl.{GroupDecl}

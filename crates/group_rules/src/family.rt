@@ -1,12 +1,13 @@
 //! Groups that are lawful together.
 
-ghost use Rattle.std.specs.Prelude.{◌≡◌, ◌≢◌, ℕ, ◌<◌, ◌≤◌, [], length, slice_get, Some, None, IsTrue, IfOk, IfErr, OnOk, OnErr, IfSome};
+ghost use Rattle.std.specs.Prelude.{◌≡◌, ◌≢◌, ℕ, ◌<◌, ◌≤◌, [], ◌++◌, ◌∷◌, length, slice_get, Some, None, IsTrue, IfOk, IfErr, OnOk, OnErr, IfSome};
 ghost use Rattle.world_model.specs.Groups.{is_well_formed, group_limit};
 ghost use Rattle.group_rules.specs.declared.refused.FamilyRefused.TheVariants as refused;
 ghost use Rattle.group_rules.specs.Families.{AreLawfulTogether, same_in, conflict_in, add_refusal, number_of, groups_with};
 
 use super::FamilyRefused;
 use super::relation::{groups_conflict, is_same_group};
+use entity_id::OutOfMemory;
 use std::alloc::Global;
 use std::marker::Model;
 use world_model::GroupDecl;
@@ -64,18 +65,58 @@ impl Family {
         ensures err { OnErr result (self.new ≡ self.old) }
         ensures lawful { AreLawfulTogether self.new }
     {
-        let number = self.len();
-        if let Some(group) = same_in(&self.decls, &decl) {
-            return Ok(group as u32);
+        if let Some(group) = self.find(&decl)? {
+            return Ok(group);
         }
-        if let Some(with) = conflict_in(&self.decls, &decl) {
+        match self.add_new(decl) {
+            Ok(number) => Ok(number),
+            Err(OutOfMemory) => Err(FamilyRefused::OutOfMemory),
+        }
+    }
+
+    /// The number of the group with the same lists, in any order, if there is one. `Conflict` and
+    /// `TooMany` exactly where [`Family::add`] answers them. No memory. (This project's own.)
+    pub fn find(&self, decl: &GroupDecl) -> Result<Option<u32>, FamilyRefused>
+        ensures ok { IfOk result (λ group. group ≡ same_in self.now decl.now) }
+        ensures accepted { OnOk result (add_refusal self.now decl.now ≡ None) }
+        ensures refused { IfErr result (λ cause. add_refusal self.now decl.now ≡ Some cause) }
+        ensures lawful { AreLawfulTogether self.now }
+    {
+        if let Some(group) = same_in(&self.decls, decl) {
+            return Ok(Some(group as u32));
+        }
+        if let Some(with) = conflict_in(&self.decls, decl) {
             return Err(FamilyRefused::Conflict { with: with as u32 });
         }
-        if number >= GROUP_LIMIT {
+        if self.len() >= GROUP_LIMIT {
             return Err(FamilyRefused::TooMany);
         }
+        Ok(None)
+    }
+
+    /// Adds a group that passes [`check`](super::check), and that [`Family::find`] neither finds nor
+    /// refuses, and answers its number, the next. After the refusal all is as before. Takes memory.
+    /// (This project's own.)
+    pub fn add_new(&mut self, decl: GroupDecl) -> Result<u32, OutOfMemory>
+        requires formed { IsTrue (is_well_formed decl) }
+        requires new { same_in self.old decl ≡ None }
+        requires accepted { add_refusal self.old decl ≡ None }
+        ensures ok { IfOk result (λ number. number ≡ length self.old) }
+        ensures groups { OnOk result (self.new ≡ self.old ++ decl ∷ []) }
+        ensures err { OnErr result (self.new ≡ self.old) }
+        ensures lawful { AreLawfulTogether self.new }
+    {
+        let number = self.len();
         self.decls.push(decl)?;
         Ok(number)
+    }
+
+    /// The groups, by number. No memory. (This project's own.)
+    pub fn as_slice(&self) -> &[GroupDecl]
+        ensures groups { result.now ≡ self.now }
+        ensures lawful { AreLawfulTogether self.now }
+    {
+        &self.decls
     }
 
     /// How many groups there are, at most 32. No memory. (This project's own.)

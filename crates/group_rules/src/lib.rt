@@ -25,7 +25,7 @@ pub use laws::{
     relations_of_groups,
 };
 pub use refused::{DeclRefused, FamilyRefused};
-pub use relation::{Relation, relate};
+pub use relation::{Relation, is_inner, relate};
 
 #[cfg(test)]
 mod tests;

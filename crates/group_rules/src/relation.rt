@@ -76,7 +76,9 @@ fn includes(pools: &[u32], others: &[u32]) -> bool
     others.iter().all(|pool| has_pool(pools, *pool))
 }
 
-fn is_inner(inner: &GroupDecl, outer: &GroupDecl) -> bool
+/// Whether a group is inner to another: each list of the outer one is contained in its own. So a group
+/// is inner to itself. No memory. (EnTT: the more restrictive of two nested groups.)
+pub fn is_inner(inner: &GroupDecl, outer: &GroupDecl) -> bool
     ensures { result ≡ is_inner inner.now outer.now }
 {
     includes(inner.own.as_slice(), outer.own.as_slice())
