@@ -1,0 +1,17 @@
+use Rattle.std.proofs.Common.{◌≡◌, ◌&&◌, not, sym, ◌∙◌, rules, tests}
+use Rattle.std.proofs.lemmas.Iterator.{YieldsList-from_slice}
+use Rattle.std.proofs.lemmas.Iterator.Adapters.{position_from-zero}
+use Rattle.std.proofs.lemmas.Iterator.Search.{position_from_yields_List}
+use Rattle.world_model.specs.Groups.{is_inner}
+use Rattle.group_engine.specs.Engine.{inner_in}
+use Rattle.group_engine.proofs.searching.inner.Goals as goal
+
+pub returns-in_err-group : goal.returns-in_err-group
+returns-in_err-group c =
+    let found : c.position.result ≡ inner_in c.args.decls.now c.args.decl.now = position_from_yields_List (λ other. is_inner other c.args.decl.now && not (is_inner c.args.decl.now other)) _ _ c.position.result c.position.ensures.ran (YieldsList-from_slice _ c.iter.ensures.rest) (λ x b q k. search (rules, tests)) ∙ position_from-zero (λ other. is_inner other c.args.decl.now && not (is_inner c.args.decl.now other)) c.args.decls.now in
+    c.from_residual.ensures ∙ sym c.in_err-group.was ∙ found
+
+pub returns : goal.returns
+returns c =
+    let found : c.position.result ≡ inner_in c.args.decls.now c.args.decl.now = position_from_yields_List (λ other. is_inner other c.args.decl.now && not (is_inner c.args.decl.now other)) _ _ c.position.result c.position.ensures.ran (YieldsList-from_slice _ c.iter.ensures.rest) (λ x b q k. search (rules, tests)) ∙ position_from-zero (λ other. is_inner other c.args.decl.now && not (is_inner c.args.decl.now other)) c.args.decls.now in
+    sym c.in_ok-group.was ∙ found

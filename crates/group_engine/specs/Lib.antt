@@ -1,0 +1,6 @@
+pub mod Grouped
+pub mod Engine
+pub mod Families
+pub mod Moving
+pub mod Layout
+pub mod Clearing
