@@ -10,6 +10,7 @@ use Rattle.entity_slots.specs.SlotLists.{SlotLists}
 use Rattle.entity_slots.specs.SlotLists as slot_lists
 use Rattle.signal_sink.specs.Hearings.{Hearing, heard_lists, all_told}
 use Rattle.storage.specs.Stored.{Stored}
+use Rattle.group_engine.specs.Engine.{Groups}
 use Rattle.world_model.specs.declared.component.Row.{Row}
 use Rattle.world_model.specs.declared.event.EventKind.TheVariants as event
 use Rattle.world_model.specs.declared.world.World.{World}
@@ -18,7 +19,7 @@ use Rattle.world_model.specs.Outcomes.{destroys, tells}
 use Rattle.world_model.specs.Slots.{slots_after_destroy}
 use Rattle.registry.specs.declared.parts.Parts.{Parts}
 use Rattle.registry.specs.Held.{Hear, heard_after}
-use Rattle.registry.specs.Layout.{maps_of, world_of, HaveRoom, IsKept, Gives}
+use Rattle.registry.specs.Layout.{maps_of, world_of, HaveRoom, KeepGroups, IsKept, Gives}
 use Rattle.registry.specs.Leaving.{hearings_after, Leave}
 use Rattle.registry.proofs.HeardLemmas.{heard_nothing, heard_one, hear_nothing, constructed_of_destroyed, updated_of_destroyed, heard_of_holders}
 
@@ -37,18 +38,18 @@ destroyed_heard w e old new each leaves pool =
     ] refl
 
 -- the entity is out of each pool, and its slot is free
-pub destroyed : {L : Type 0} (old : Parts L) (slots : SlotLists) (pools : Vec (Stored Row)) (destroy : Vec (List (Option Hearing))) (e : Entity) → IsKept old
+pub destroyed : {L : Type 0} (old : Parts L) (slots : SlotLists) (pools : Vec (Stored Row)) (groups : Groups) (destroy : Vec (List (Option Hearing))) (e : Entity) → IsKept old
     → slot_lists.Becomes old.slots slots (slots_after_destroy old.slots.profile old.slots.slots e) (e.index ∷ old.slots.free)
     → maps_of pools.items ≡ map (λ rows. entries.remove rows e) (maps_of old.pools.items) → Leave e (maps_of old.pools.items) old.destroy.items destroy.items
-    → length destroy.items ≡ length old.destroy.items → HaveRoom pools.items destroy.items
-    → Gives old (record { profile = old.profile; decls = old.decls; slots = slots; pools = pools; construct = old.construct; update = old.update; destroy = destroy }) (destroys (world_of old) e)
-destroyed old slots pools destroy e h to maps leaves signals room =
+    → length destroy.items ≡ length old.destroy.items → HaveRoom pools.items destroy.items → KeepGroups old.groups groups pools.items
+    → Gives old (record { profile = old.profile; decls = old.decls; slots = slots; pools = pools; groups = groups; construct = old.construct; update = old.update; destroy = destroy }) (destroys (world_of old) e)
+destroyed old slots pools groups destroy e h to maps leaves signals room kept =
     let w = world_of old in
     let each : length old.destroy.items ≡ length w.pools = h.destroy_each ∙ sym h.pool_each ∙ sym (length-map old.pools.items (λ (s : Stored Row). entries.map_of s.pairs)) in
     record {
       becomes = record {
         limit = to.limit;
-        world = λ i. record { profile = to.profile i; decls = old.decls; groups = []; tick = 0; slots = to.slots i; free = to.free i; pools = maps i };
+        world = λ i. record { profile = to.profile i; decls = old.decls; groups = kept.decls i; tick = 0; slots = to.slots i; free = to.free i; pools = maps i };
         construct = hear_nothing event.Construct (destroys w e).events old.construct.items (λ p. constructed_of_destroyed p e (holders w e));
         update = hear_nothing event.Update (destroys w e).events old.update.items (λ p. updated_of_destroyed p e (holders w e));
         destroy = destroyed_heard w e old.destroy.items destroy.items each leaves;
@@ -58,4 +59,6 @@ destroyed old slots pools destroy e h to maps leaves signals room =
       update_each = refl;
       destroy_each = signals;
       room = room;
+      group_pools = kept.count;
+      grouped = kept.grouped;
     }

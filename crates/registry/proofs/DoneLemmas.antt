@@ -50,6 +50,8 @@ kept_after old new world events h lawful decls profile change =
       update_each = change.update_each ∙ h.update_each ∙ components;
       destroy_each = change.destroy_each ∙ h.destroy_each ∙ components;
       room = change.room;
+      group_pools = change.group_pools ∙ h.group_pools ∙ components;
+      grouped = change.grouped;
     }
 
 -- ---- accepted
@@ -125,7 +127,7 @@ entry_finished old new command r further h ok is passes change stays =
 
 -- the parts with other slots
 abbrev pub with_slots : {L : Type 0} → Parts L → SlotLists → Parts L
-with_slots old slots = record { profile = old.profile; decls = old.decls; slots = slots; pools = old.pools; construct = old.construct; update = old.update; destroy = old.destroy }
+with_slots old slots = record { profile = old.profile; decls = old.decls; slots = slots; pools = old.pools; groups = old.groups; construct = old.construct; update = old.update; destroy = old.destroy }
 
 -- other slots, and all else as it was
 pub slots_changed : {L : Type 0} (old : Parts L) (slots : SlotLists) (list : List Slot) (free : List ℕ) → IsKept old → slot_lists.Becomes old.slots slots list free
@@ -133,7 +135,7 @@ pub slots_changed : {L : Type 0} (old : Parts L) (slots : SlotLists) (list : Lis
 slots_changed old slots list free h to = record {
   becomes = record {
     limit = to.limit;
-    world = λ i. record { profile = to.profile i; decls = old.decls; groups = []; tick = 0; slots = to.slots i; free = to.free i; pools = maps_of old.pools.items };
+    world = λ i. record { profile = to.profile i; decls = old.decls; groups = old.groups.decls; tick = 0; slots = to.slots i; free = to.free i; pools = maps_of old.pools.items };
     construct = (same (held_of old)).unchanged.construct;
     update = (same (held_of old)).unchanged.update;
     destroy = (same (held_of old)).unchanged.destroy;
@@ -143,6 +145,8 @@ slots_changed old slots list free h to = record {
   update_each = refl;
   destroy_each = refl;
   room = h.room;
+  group_pools = refl;
+  grouped = h.grouped;
 }
 
 -- where the lists are those of before, all is as before but for spare

@@ -6,18 +6,23 @@ use Rattle.std.proofs.lemmas.Option.{none-some, same_Some}
 use Rattle.entity_id.specs.FiniteMap as entries
 use Rattle.entity_id.specs.declared.entity.Profile.{Profile}
 use Rattle.entity_slots.specs.SlotLists.{SlotLists, slot_lists}
+use Rattle.group_engine.specs.Engine.{Groups}
+use Rattle.group_engine.specs.Grouped.{packed_of, cores_of, AreGrouped, AreStill}
 use Rattle.signal_sink.specs.Hearings.{Hearing}
 use Rattle.storage.specs.Stored.{Stored}
 use Rattle.world_model.specs.declared.component.Decl.{Decl}
 use Rattle.world_model.specs.declared.component.Row.{Row}
 use Rattle.world_model.specs.declared.slot.Slot.{Slot}
 use Rattle.entity_id.specs.declared.entity.Entity.{Entity}
+use Rattle.world_model.specs.declared.group.GroupDecl.{GroupDecl}
 use Rattle.world_model.specs.declared.world.World.{World}
 use Rattle.world_model.specs.Worlds.{IsLawful, empty_world}
 use Rattle.registry.specs.declared.parts.Parts.{Parts}
 use Rattle.registry.specs.Held.{unheard}
-use Rattle.registry.specs.Layout.{maps_of, pairs_of, packed_of, world_of, held_of, HaveRoom, IsKept, AreMadeOf}
+use Rattle.registry.specs.Layout.{maps_of, pairs_of, world_of, held_of, HaveRoom, IsKept, AreMadeOf}
+use Rattle.registry.specs.Packing.{is_owned}
 use Rattle.world_model.specs.Contents.{keys_of}
+use Rattle.registry.proofs.CoreLemmas.{core_maps}
 use Rattle.registry.proofs.DoneLemmas.{length_all_zip}
 use Rattle.registry.proofs.MapListLemmas.{map_of-ascending, pools_ascend}
 
@@ -60,15 +65,21 @@ none_ascend : (n : ℕ) → AllByRecursion (entries.IsAscending {X = Row}) (repl
 none_ascend zero = tt
 none_ascend (suc n) = (tt, none_ascend n)
 
+-- no groups are packed in any pools
+pub no_groups : (decls : List GroupDecl) (lens : List ℕ) (packed : List (List Entity)) → decls ≡ [] → AreGrouped decls lens packed
+no_groups decls lens packed none = record { each = λ group decl count at _. absurd (none-some decl (ap (λ (l : List GroupDecl). slice_get l group) (sym none) ∙ at)) }
+
 -- what was made of a lawful world is kept, and is that world with nobody who listens
-pub fresh : {L : Type 0} (parts : Parts L) (decls : List Decl) (slots : SlotLists) (pools : List (Stored Row)) (limit : ℕ) (world : World) → AreMadeOf parts slots.profile decls slots pools → slots.limit ≡ limit → packed_of pools ≡ keys_of world
-    → record { profile = slots.profile; decls = decls; groups = []; tick = 0; slots = slots.slots; free = slots.free; pools = maps_of pools } ≡ world → IsLawful limit world → IsKept parts × (held_of parts ≡ unheard limit world)
-fresh parts decls slots pools limit world made limit_is packed is lawful =
-    let world_is : world_of parts ≡ world = (λ i. record { profile = (made.slots i).profile; decls = made.decls i; groups = []; tick = 0; slots = (made.slots i).slots; free = (made.slots i).free; pools = maps_of (made.pools i) }) ∙ is in
+pub fresh : {L : Type 0} (parts : Parts L) (decls : List Decl) (slots : SlotLists) (pools : List (Stored Row)) (groups : Groups) (limit : ℕ) (world : World) → AreMadeOf parts slots.profile decls slots pools groups → slots.limit ≡ limit
+    → record { profile = slots.profile; decls = decls; groups = groups.decls; tick = 0; slots = slots.slots; free = slots.free; pools = maps_of pools } ≡ world → IsLawful limit world
+    → groups.pools ≡ length decls → AreGrouped groups.decls groups.lens (packed_of pools) → IsKept parts × (held_of parts ≡ unheard limit world (packed_of pools))
+fresh parts decls slots pools groups limit world made limit_is is lawful group_pools grouped =
+    let world_is : world_of parts ≡ world = (λ i. record { profile = (made.slots i).profile; decls = made.decls i; groups = (made.groups i).decls; tick = 0; slots = (made.slots i).slots; free = (made.slots i).free; pools = maps_of (made.pools i) }) ∙ is in
     let limits : parts.slots.limit ≡ limit = ap (λ (s : SlotLists). s.limit) made.slots ∙ limit_is in
     let now : IsLawful parts.slots.limit (world_of parts) = subst (λ n. IsLawful n (world_of parts)) (sym limits) (subst (IsLawful limit) (sym world_is) lawful) in
     let each : length decls ≡ length parts.decls = ap length (sym made.decls) in
-    let count : length decls ≡ length world.decls = ap (λ (w : World). length w.decls) is in (
+    let count : length decls ≡ length world.decls = ap (λ (w : World). length w.decls) is in
+    let regrouped : AreGrouped parts.groups.decls parts.groups.lens (packed_of pools) = subst (λ (g : Groups). AreGrouped g.decls g.lens (packed_of pools)) (sym made.groups) grouped in (
       record {
         lawful = now;
         profile = made.profile ∙ ap (λ (s : SlotLists). s.profile) (sym made.slots);
@@ -77,34 +88,64 @@ fresh parts decls slots pools limit world made limit_is packed is lawful =
         update_each = ap length made.update ∙ length_replicate (length decls) [] ∙ each;
         destroy_each = ap length made.destroy ∙ length_replicate (length decls) [] ∙ each;
         room = subst (HaveRoom parts.pools.items) (sym made.destroy) (room_of_none (length decls) parts.pools.items);
+        group_pools = ap (λ (g : Groups). g.pools) made.groups ∙ group_pools ∙ each;
+        grouped = subst (λ (list : List (Stored Row)). AreGrouped parts.groups.decls parts.groups.lens (packed_of list)) (sym made.pools) regrouped;
       },
       λ i. record {
         limit = limits i;
         world = world_is i;
-        packed = (ap packed_of made.pools ∙ packed) i;
+        packed = packed_of (made.pools i);
         construct = (made.construct ∙ ap (λ n. replicate n []) count) i;
         update = (made.update ∙ ap (λ n. replicate n []) count) i;
         destroy = (made.destroy ∙ ap (λ n. replicate n []) count) i;
       },
     )
 
--- the same, of no slots and no rows
-pub fresh_new : {L : Type 0} (parts : Parts L) (profile : Profile) (limit : ℕ) (decls : List Decl) (slots : SlotLists) (pools : List (Stored Row)) → AreMadeOf parts profile decls slots pools → slots ≡ slot_lists profile limit [] []
-    → pairs_of pools ≡ replicate (length decls) [] → IsLawful limit (empty_world profile decls) → IsKept parts × (held_of parts ≡ unheard limit (empty_world profile decls))
-fresh_new parts profile limit decls slots pools made is none lawful =
+-- the same, of no slots, no groups and no rows
+pub fresh_new : {L : Type 0} (parts : Parts L) (profile : Profile) (limit : ℕ) (decls : List Decl) (slots : SlotLists) (pools : List (Stored Row)) (groups : Groups) → AreMadeOf parts profile decls slots pools groups → slots ≡ slot_lists profile limit [] []
+    → pairs_of pools ≡ replicate (length decls) [] → groups.decls ≡ [] → groups.pools ≡ length decls → IsLawful limit (empty_world profile decls) → IsKept parts × (held_of parts ≡ unheard limit (empty_world profile decls) (keys_of (empty_world profile decls)))
+fresh_new parts profile limit decls slots pools groups made is none ungrouped group_pools lawful =
     let of : profile ≡ slots.profile = ap (λ (s : SlotLists). s.profile) (sym is) in
     let maps : maps_of pools ≡ replicate (length decls) [] = maps_of_pairs pools _ none (none_ascend (length decls)) in
-    fresh parts decls slots pools limit (empty_world profile decls) (subst (λ p. AreMadeOf parts p decls slots pools) of made) (ap (λ (s : SlotLists). s.limit) is) (packed_of_pairs pools _ none)
-    (λ i. record { profile = (is i).profile; decls = decls; groups = []; tick = 0; slots = (is i).slots; free = (is i).free; pools = maps i }) lawful
+    let both = fresh parts decls slots pools groups limit (empty_world profile decls) (subst (λ p. AreMadeOf parts p decls slots pools groups) of made) (ap (λ (s : SlotLists). s.limit) is)
+    (λ i. record { profile = (is i).profile; decls = decls; groups = ungrouped i; tick = 0; slots = (is i).slots; free = (is i).free; pools = maps i }) lawful
+    group_pools (no_groups groups.decls groups.lens (packed_of pools) ungrouped) in
+    (both.0, both.1 ∙ ap (unheard limit (empty_world profile decls)) (packed_of_pairs pools _ none))
 
--- the same, of a lawful world without groups
-pub fresh_load : {L : Type 0} (parts : Parts L) (limit : ℕ) (world : World) (decls : List Decl) (slots : SlotLists) (list : List Slot) (free : List ℕ) (pools : List (Stored Row)) (rows : List (List (Entity × Row))) → AreMadeOf parts world.profile decls slots pools
-    → decls ≡ world.decls → slots ≡ slot_lists world.profile limit list free → list ≡ world.slots → free ≡ world.free → pairs_of pools ≡ rows → rows ≡ world.pools → world.groups ≡ [] → IsLawful limit world
-    → IsKept parts × (held_of parts ≡ unheard limit (record world { tick = 0 }))
-fresh_load parts limit world decls slots list free pools rows made decls_is is list_is free_is pairs rows_is ungrouped h =
+-- as many pools were loaded as there are components
+pub count_loaded : (limit : ℕ) (world : World) (loaded : List (Stored Row)) → pairs_of loaded ≡ world.pools → IsLawful limit world → length loaded ≡ length world.decls
+count_loaded limit world loaded rows h = sym (length-map loaded (λ (s : Stored Row). s.pairs)) ∙ ap length rows ∙ length_all_zip _ world.decls world.pools h.pools
+
+-- what is made of a lawful world's rows and groups: the pools were loaded, and then put in order for the groups
+pub record IsLoaded (world : World) (groups : Groups) (loaded pools : List (Stored Row)) : Type 0 where
+  pub decls : groups.decls ≡ world.groups
+  pub count : groups.pools ≡ length loaded
+  pub grouped : AreGrouped groups.decls groups.lens (packed_of pools)
+  pub rows : pairs_of loaded ≡ world.pools
+  pub cores : cores_of pools ≡ cores_of loaded
+  pub still : AreStill (is_owned world.groups) (packed_of loaded) (packed_of pools)
+
+-- a registry of a lawful world
+pub record IsOfWorld {L : Type 0} (parts : Parts L) (limit : ℕ) (world : World) : Type 0 where
+  pub kept : IsKept parts
+  pub held : held_of parts ≡ unheard limit (record world { tick = 0 }) (packed_of parts.pools.items)
+  pub still : AreStill (is_owned world.groups) (keys_of world) (packed_of parts.pools.items)
+
+pub fresh_load : {L : Type 0} (parts : Parts L) (limit : ℕ) (world : World) (decls : List Decl) (slots : SlotLists) (list : List Slot) (free : List ℕ) (loaded pools : List (Stored Row)) (groups : Groups) → AreMadeOf parts world.profile decls slots pools groups
+    → decls ≡ world.decls → slots ≡ slot_lists world.profile limit list free → list ≡ world.slots → free ≡ world.free → IsLoaded world groups loaded pools → IsLawful limit world → IsOfWorld parts limit world
+fresh_load parts limit world decls slots list free loaded pools groups made decls_is is list_is free_is of_rows h =
     let of : world.profile ≡ slots.profile = ap (λ (s : SlotLists). s.profile) (sym is) in
     let lists : slots ≡ slot_lists world.profile limit world.slots world.free = is ∙ (λ i. slot_lists world.profile limit (list_is i) (free_is i)) in
-    let stored : maps_of pools ≡ world.pools = maps_of_pairs pools world.pools (pairs ∙ rows_is) (pools_ascend world.profile world.slots world.decls world.pools h.pools) in
-    fresh parts decls slots pools limit (record world { tick = 0 }) (subst (λ p. AreMadeOf parts p decls slots pools) of made) (ap (λ (s : SlotLists). s.limit) is) (packed_of_pairs pools world.pools (pairs ∙ rows_is))
-    (λ i. record { profile = (lists i).profile; decls = decls_is i; groups = sym ungrouped i; tick = 0; slots = (lists i).slots; free = (lists i).free; pools = stored i })
+    let stored : maps_of pools ≡ world.pools = core_maps pools loaded of_rows.cores ∙ maps_of_pairs loaded world.pools of_rows.rows (pools_ascend world.profile world.slots world.decls world.pools h.pools) in
+    let each : length loaded ≡ length decls = count_loaded limit world loaded of_rows.rows h ∙ ap length (sym decls_is) in
+    let both = fresh parts decls slots pools groups limit (record world { tick = 0 }) (subst (λ p. AreMadeOf parts p decls slots pools groups) of made) (ap (λ (s : SlotLists). s.limit) is)
+    (λ i. record { profile = (lists i).profile; decls = decls_is i; groups = of_rows.decls i; tick = 0; slots = (lists i).slots; free = (lists i).free; pools = stored i })
     (record { profile = h.profile; few_decls = h.few_decls; decls = h.decls; slots = h.slots; pools = h.pools; groups = h.groups })
+    (of_rows.count ∙ each) of_rows.grouped in
+    let here : packed_of pools ≡ packed_of parts.pools.items = ap packed_of (sym made.pools) in
+    record {
+      kept = both.0;
+      held = both.1 ∙ ap (unheard limit (record world { tick = 0 })) here;
+      still = subst (AreStill (is_owned world.groups) (keys_of world)) here
+          (subst (λ (lists : List (List Entity)). AreStill (is_owned world.groups) lists (packed_of pools)) (packed_of_pairs loaded world.pools of_rows.rows) of_rows.still);
+    }

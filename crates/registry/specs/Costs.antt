@@ -1,22 +1,26 @@
 -- How many steps the calls of a registry count.
-use Rattle.std.specs.Prelude.{ℕ, ◌+◌, ◌*◌, ◌^◌, ◌<◌, ◌≤◌, Bool, if◌then◌else◌, List, length, sum_by}
-use Rattle.std.specs.List.{list_any}
+use Rattle.std.specs.Prelude.{ℕ, ◌+◌, ◌*◌, ◌^◌, ◌<◌, ◌≤◌, List, length, sum_by, slice_index_or}
 use Rattle.entity_id.specs.declared.entity.Entity.{Entity}
 use Rattle.world_model.specs.declared.command.Command.{Command}
-use Rattle.world_model.specs.declared.command.Command.TheVariants.{Destroy, Emplace, EmplaceOrReplace, Remove, Erase, Clear}
+use Rattle.world_model.specs.declared.command.Command.TheVariants.{Destroy, Emplace, EmplaceOrReplace, Remove, Erase, Clear, Group, SortPool, SortGroup}
 use Rattle.world_model.specs.declared.group.GroupDecl.{GroupDecl}
 use Rattle.world_model.specs.declared.world.World.{World}
-use Rattle.world_model.specs.Contents.{pool_at, holders}
-use Rattle.world_model.specs.Groups.{group_pools, has_pool}
-
--- whether a group names a pool
-abbrev pub is_named : List GroupDecl → ℕ → Bool
-is_named groups pool = list_any (λ decl. has_pool (group_pools decl) pool) groups
+use Rattle.world_model.specs.Contents.{pool_at, keys_of, holders, group_at}
+use Rattle.world_model.specs.Groups.{members}
+use Rattle.group_engine.specs.Grouped.{naming_cost}
 
 -- the most steps that a row added to a pool or removed from it counts: one, and one for each owned pool of each group that names
 -- the pool
 abbrev pub row_steps : List GroupDecl → ℕ → ℕ
-row_steps groups pool = 1 + sum_by (λ decl. if has_pool (group_pools decl) pool then length decl.own else 0) groups
+row_steps groups pool = 1 + naming_cost groups pool
+
+-- the most that a new group counts: one for each member in each pool that it owns, and its first owned pool has them all
+abbrev pub group_steps : World → GroupDecl → ℕ
+group_steps w decl = length (pool_at w (slice_index_or decl.own 0 0)) * length decl.own
+
+-- the most that a group sorted counts: one for each member in each pool that it owns
+abbrev pub sort_steps : World → GroupDecl → ℕ
+sort_steps w decl = length decl.own * length (members (keys_of w) decl)
 
 -- the most that an entity destroyed counts: so many for each pool that it is in
 abbrev pub destroy_steps : World → Entity → ℕ
@@ -38,4 +42,7 @@ RunsWithin w (EmplaceOrReplace entity pool row) before after = after ≤ before 
 RunsWithin w (Remove entity pool) before after = after ≤ before + row_steps w.groups pool
 RunsWithin w (Erase entity pool) before after = after ≤ before + row_steps w.groups pool
 RunsWithin w (Clear pool) before after = ClearsWithin w pool before after
+RunsWithin w (Group decl) before after = after ≤ before + group_steps w decl
+RunsWithin w (SortPool pool field) before after = after ≤ before + length (pool_at w pool)
+RunsWithin w (SortGroup group pool field) before after = after ≤ before + sort_steps w (group_at w group)
 RunsWithin w _ before after = after ≤ before

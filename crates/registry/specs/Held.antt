@@ -1,5 +1,5 @@
 -- What a contract sees of a registry, and what its calls do to it.
-use Rattle.std.specs.Prelude.{◌≡◌, ℕ, ◌++◌, List, [], map, replicate, length, Option, slice_get}
+use Rattle.std.specs.Prelude.{◌≡◌, ℕ, ◌++◌, List, [], ◌∷◌, not, map, replicate, length, Option, slice_get}
 use Rattle.std.specs.Option.{option_map}
 use Rattle.entity_id.specs.declared.entity.Entity.{Entity}
 use Rattle.signal_sink.specs.Hearings.{Hearing, heard_lists}
@@ -9,9 +9,11 @@ use Rattle.world_model.specs.declared.event.Event.{Event}
 use Rattle.world_model.specs.declared.event.EventKind.{EventKind}
 use Rattle.world_model.specs.declared.event.EventKind.TheVariants as event
 use Rattle.world_model.specs.declared.refusal.Refusal.{Refusal}
+use Rattle.world_model.specs.declared.refusal.Refusal.TheVariants as refusal
 use Rattle.world_model.specs.declared.world.World.{World}
-use Rattle.world_model.specs.Contents.{keys_of}
-use Rattle.world_model.specs.Refusing.{refusal_of}
+use Rattle.world_model.specs.Contents.{keys_of, group_at}
+use Rattle.world_model.specs.Groups.{has_pool, members, group_prefix}
+use Rattle.world_model.specs.Refusing.{first_refusal, refuse, refusal_of, when_no_group, when_no_pool}
 use Rattle.world_model.specs.Steps.{step, heard_by}
 
 -- a world at tick 0 with at most so many slots, the packed list of each pool, and for each kind of event the listeners of each pool
@@ -55,16 +57,31 @@ pub record AsBefore (old new : Held) : Type 0 where
   pub unchanged : Becomes old new old.world []
   pub packed : new.packed ≡ old.packed
 
--- a registry of this world that nobody listens to, with each pool packed in ascending index
-abbrev pub unheard : ℕ → World → Held
-unheard limit world = record {
+-- a registry of this world, packed so, that nobody listens to
+abbrev pub unheard : ℕ → World → List (List Entity) → Held
+unheard limit world packed = record {
   limit = limit;
   world = world;
-  packed = keys_of world;
+  packed = packed;
   construct = replicate (length world.decls) [];
   update = replicate (length world.decls) [];
   destroy = replicate (length world.decls) [];
 }
+
+-- how many members a group has
+abbrev pub member_count : Held → ℕ → ℕ
+member_count held group = length (members (keys_of held.world) (group_at held.world group))
+
+-- the members of a group in packed order: the first so many identifiers of its first owned pool
+abbrev pub packed_members : Held → ℕ → List Entity
+packed_members held group = group_prefix held.packed (group_at held.world group) (member_count held group)
+
+-- why the rows of a group in a pool are not lent, if they are not: there is no such group, the pool is not declared, or the group
+-- does not own it
+abbrev pub rows_refusal : World → ℕ → ℕ → Option Refusal
+rows_refusal w group pool =
+    first_refusal
+    (when_no_group w group ∷ when_no_pool w (pool ∷ []) ∷ refuse (not (has_pool (group_at w group).own pool)) refusal.BadKey ∷ [])
 
 -- what the command is answered
 abbrev pub reply_to : Held → Command → Reply

@@ -3,6 +3,8 @@ use Rattle.std.specs.Prelude.{◌≡◌, ℕ, List, [], map, length, replicate, 
 use Rattle.entity_id.specs.declared.entity.Entity.{Entity}
 use Rattle.entity_id.specs.FiniteMap as entries
 use Rattle.entity_id.specs.declared.entity.Profile.{Profile}
+use Rattle.group_engine.specs.Engine.{Groups}
+use Rattle.group_engine.specs.Grouped.{packed_of, AreGrouped}
 use Rattle.entity_slots.specs.SlotLists.{SlotLists}
 use Rattle.signal_sink.specs.Hearings.{Hearing, HaveSpare}
 use Rattle.storage.specs.Stored.{Stored}
@@ -19,10 +21,6 @@ use Rattle.registry.specs.Held.{Held, Becomes}
 abbrev pub maps_of : List (Stored Row) → List (List (Entity × Row))
 maps_of pools = map (λ stored. entries.map_of stored.pairs) pools
 
--- the packed list of each pool
-abbrev pub packed_of : List (Stored Row) → List (List Entity)
-packed_of pools = map (λ stored. entries.keys stored.pairs) pools
-
 -- the entries of each pool, in packed order
 abbrev pub pairs_of : List (Stored Row) → List (List (Entity × Row))
 pairs_of pools = map (λ stored. stored.pairs) pools
@@ -32,7 +30,7 @@ abbrev pub world_of : {L : Type 0} → Parts L → World
 world_of parts = record {
   profile = parts.slots.profile;
   decls = parts.decls;
-  groups = [];
+  groups = parts.groups.decls;
   tick = 0;
   slots = parts.slots.slots;
   free = parts.slots.free;
@@ -54,7 +52,8 @@ held_of parts = record {
 abbrev pub HaveRoom : List (Stored Row) → List (List (Option Hearing)) → Type 0
 HaveRoom pools hearings = (pool : ℕ) (stored : Stored Row) (list : List (Option Hearing)) → slice_get pools pool ≡ Some stored → slice_get hearings pool ≡ Some list → HaveSpare (length stored.pairs) list
 
--- the parts stand for a lawful world, there are one pool and three signals for each component, and destroying finds room
+-- the parts stand for a lawful world, there are one pool and three signals for each component, destroying finds room, and
+-- each group is packed
 pub record IsKept {L : Type 0} (parts : Parts L) : Type 0 where
   pub lawful : IsLawful parts.slots.limit (world_of parts)
   pub profile : parts.profile ≡ parts.slots.profile
@@ -63,8 +62,17 @@ pub record IsKept {L : Type 0} (parts : Parts L) : Type 0 where
   pub update_each : length parts.update.items ≡ length parts.decls
   pub destroy_each : length parts.destroy.items ≡ length parts.decls
   pub room : HaveRoom parts.pools.items parts.destroy.items
+  pub group_pools : parts.groups.pools ≡ length parts.decls
+  pub grouped : AreGrouped parts.groups.decls parts.groups.lens (packed_of parts.pools.items)
 
--- the parts stand for another world, and the listeners have heard these events; there are as many signals, and room as before
+-- the groups of before, over as many pools, each packed in these
+pub record KeepGroups (old new : Groups) (pools : List (Stored Row)) : Type 0 where
+  pub decls : new.decls ≡ old.decls
+  pub count : new.pools ≡ old.pools
+  pub grouped : AreGrouped new.decls new.lens (packed_of pools)
+
+-- the parts stand for another world, and the listeners have heard these events; there are as many signals,
+-- room as before, and each group is packed
 pub record IsChanged {L : Type 0} (old new : Parts L) (world : World) (events : List Event) : Type 0 where
   pub becomes : Becomes (held_of old) (held_of new) world events
   pub profile : new.profile ≡ old.profile
@@ -72,6 +80,8 @@ pub record IsChanged {L : Type 0} (old new : Parts L) (world : World) (events : 
   pub update_each : length new.update.items ≡ length old.update.items
   pub destroy_each : length new.destroy.items ≡ length old.destroy.items
   pub room : HaveRoom new.pools.items new.destroy.items
+  pub group_pools : new.groups.pools ≡ old.groups.pools
+  pub grouped : AreGrouped new.groups.decls new.groups.lens (packed_of new.pools.items)
 
 -- the parts changed as an outcome says
 abbrev pub Gives : {L : Type 0} → Parts L → Parts L → Outcome → Type 0
@@ -83,11 +93,12 @@ pub record Stays {L : Type 0} (old new : Parts L) : Type 0 where
   pub packed : packed_of new.pools.items ≡ packed_of old.pools.items
 
 -- the parts are these, and nobody listens
-pub record AreMadeOf {L : Type 0} (parts : Parts L) (limits : Profile) (components : List Decl) (entities : SlotLists) (stored : List (Stored Row)) : Type 0 where
+pub record AreMadeOf {L : Type 0} (parts : Parts L) (limits : Profile) (components : List Decl) (entities : SlotLists) (stored : List (Stored Row)) (grouped : Groups) : Type 0 where
   pub profile : parts.profile ≡ limits
   pub decls : parts.decls ≡ components
   pub slots : parts.slots ≡ entities
   pub pools : parts.pools.items ≡ stored
+  pub groups : parts.groups ≡ grouped
   pub construct : parts.construct.items ≡ replicate (length components) []
   pub update : parts.update.items ≡ replicate (length components) []
   pub destroy : parts.destroy.items ≡ replicate (length components) []

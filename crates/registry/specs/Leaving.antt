@@ -1,5 +1,6 @@
 -- What leaves with an identifier.
-use Rattle.std.specs.Prelude.{◌≡◌, ℕ, if◌then◌else◌, List, [], Option, slice_get, slice_index_or}
+use Rattle.std.specs.Prelude.{◌≡◌, ℕ, if◌then◌else◌, List, [], filter, length, reverse, Option, slice_get, slice_index_or}
+use Rattle.std.specs.List.{range_with_len}
 use Rattle.std.specs.Option.{option_map}
 use Rattle.entity_id.specs.declared.entity.Entity.{Entity}
 use Rattle.entity_id.specs.FiniteMap as entries
@@ -15,3 +16,7 @@ hearings_after pool entity before hearings = if entries.contains before entity t
 -- the destruction listeners of each pool, once an identifier left them all
 abbrev pub Leave : Entity → List (List (Entity × Row)) → List (List (Option Hearing)) → List (List (Option Hearing)) → Type 0
 Leave entity maps old new = (pool : ℕ) → slice_get new pool ≡ option_map (hearings_after pool entity (slice_index_or maps pool [])) (slice_get old pool)
+
+-- the pools that have a row of an identifier, in descending number
+abbrev pub pools_with : List (List (Entity × Row)) → Entity → List ℕ
+pools_with maps entity = filter (λ pool. entries.contains (slice_index_or maps pool []) entity) (reverse (range_with_len 0 (length maps)))

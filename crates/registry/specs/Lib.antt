@@ -1,6 +1,7 @@
 pub mod Clearing
 pub mod Costs
 pub mod Held
+pub mod Keys
 pub mod Laws
 pub mod Layout
 pub mod Leaving

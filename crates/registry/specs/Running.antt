@@ -1,5 +1,5 @@
 -- Commands carried out, with their replies.
-use Rattle.std.specs.Prelude.{◌≡◌, ◌⊎◌, ℕ, ◌<◌, Bool, true, false, not, nat_lt, if◌then◌else◌, List, [], ◌∷◌, length, IsTrue, None, Result, Ok, Err}
+use Rattle.std.specs.Prelude.{◌≡◌, ◌⊎◌, ℕ, ◌<◌, Bool, true, false, not, nat_lt, if◌then◌else◌, List, [], ◌∷◌, length, IsTrue, is_some, None, Result, Ok, Err}
 use Rattle.entity_id.specs.declared.entity.Entity.{Entity}
 use Rattle.world_model.specs.declared.command.Command.{Command}
 use Rattle.world_model.specs.declared.command.Command.TheVariants.{Create, Hint, Emplace, EmplaceOrReplace, Replace, Patch, Valid, Get, AllOf, AnyOf, Orphan, Alive, Size, View, Group, Members, SortPool, SortGroup}
@@ -10,17 +10,11 @@ use Rattle.world_model.specs.declared.refusal.Refusal.TheVariants.{OutOfMemory}
 use Rattle.world_model.specs.declared.world.World.{World}
 use Rattle.world_model.specs.Components.{fits_kind, has_field}
 use Rattle.world_model.specs.Conditions.{fits_pool}
+use Rattle.world_model.specs.Contents.{group_where}
+use Rattle.world_model.specs.Groups.{is_same_group}
 use Rattle.world_model.specs.Slots.{is_plain_hint}
 use Rattle.registry.specs.Held.{Held, Does, AsBefore, reply_to, refusal_to}
 use Rattle.registry.specs.Packing.{RepacksUnless}
-
--- whether the registry carries out such a command: groups and sorts are not among them yet
-abbrev pub is_served : Command → Bool
-is_served (Group decl) = false
-is_served (Members group) = false
-is_served (SortPool pool field) = false
-is_served (SortGroup group pool field) = false
-is_served _ = true
 
 -- what the call asks that a command stands for: a row that fits its component, a field that may hold the value, where the
 -- component is declared; one component or more that a view's identifiers are in
@@ -32,7 +26,7 @@ Asks w (Patch entity pool field value) = pool < length w.decls → IsTrue (has_f
 Asks w (View all without) = 0 < length all
 Asks w _ = Unit {0}
 
--- whether the command changes nothing, and is served
+-- whether the command changes nothing
 abbrev pub is_question : Command → Bool
 is_question (Valid entity) = true
 is_question (Get entity pool) = true
@@ -42,6 +36,7 @@ is_question (Orphan entity) = true
 is_question Alive = true
 is_question Size = true
 is_question (View all without) = true
+is_question (Members group) = true
 is_question _ = false
 
 -- whether a list has nothing in it
@@ -55,7 +50,7 @@ hint_needs_slot held hint =
     if is_plain_hint held.world.profile held.limit held.world.slots hint then is_empty held.world.free
     else not (nat_lt hint.index (length held.world.slots))
 
--- whether the call of a command may want memory: a creation does only where it needs a new slot
+-- whether the call of a command may want memory: a creation does only where it needs a new slot, a group only where it is new
 abbrev pub may_want_memory : Held → Command → Bool
 may_want_memory held Create = is_empty held.world.free
 may_want_memory held (Hint hint) = hint_needs_slot held hint
@@ -64,6 +59,10 @@ may_want_memory held (EmplaceOrReplace entity pool row) = true
 may_want_memory held (Replace entity pool row) = true
 may_want_memory held (Patch entity pool field value) = true
 may_want_memory held (View all without) = true
+may_want_memory held (Group decl) = not (is_some (group_where held.world (is_same_group decl)))
+may_want_memory held (Members group) = true
+may_want_memory held (SortPool pool field) = true
+may_want_memory held (SortGroup group pool field) = true
 may_want_memory held _ = false
 
 -- what a call's answer is as a reply

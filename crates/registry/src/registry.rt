@@ -1,19 +1,22 @@
 //! The registry.
 
 mod components;
+mod groups;
 mod laws;
 mod lifecycle;
 mod listeners;
 mod queries;
 mod running;
+mod sorting;
 
 use super::parts::Parts;
 use signal_sink::Listener;
 use std::marker::Model;
 
-/// The entities of a world, the rows of each component, and the listeners of each pool. A contract
-/// sees it as `Held` (`specs/Held.antt`). Each listener that hears of a pool's rows removed has room
-/// for them all, so no call that removes rows takes memory. (EnTT: `entt::basic_registry`.)
+/// The entities of a world, the rows of each component, the owning groups, and the listeners of each
+/// pool. A contract sees it as `Held` (`specs/Held.antt`). Each listener that hears of a pool's rows
+/// removed has room for them all, so no call that removes rows takes memory. (EnTT:
+/// `entt::basic_registry`.)
 #[derive(Drop)]
 pub struct Registry<L: Listener> {
     parts: Parts<L>,

@@ -5,3 +5,4 @@ pub mod RenewalLemmas
 pub mod PackedLemmas
 pub mod RecorderLemmas
 pub mod SequenceLemmas
+pub mod GroupedLemmas

@@ -10,10 +10,9 @@ use Rattle.std.specs.Prelude.{unwrap_or}
 use Rattle.entity_id.specs.declared.entity.Entity.{Entity}
 use Rattle.entity_id.specs.FiniteMap as rows
 use Rattle.entity_id.specs.Identifiers.{is_same}
-use Rattle.entity_id.specs.Matching.{is_in, matches}
+use Rattle.entity_id.specs.Matching.{is_in}
 use Rattle.entity_id.proofs.ListLemmas.{all_at}
 use Rattle.entity_id.proofs.MapLemmas.{same_itself, same_true, same_false, get-put_same, get-put_other, get-put_version}
-use Rattle.entity_id.proofs.MatchLemmas.{any-matches}
 use Rattle.world_model.specs.declared.command.Command.TheVariants.{Replace}
 use Rattle.world_model.specs.declared.component.Row.{Row}
 use Rattle.world_model.specs.declared.refusal.Refusal.{Refusal}
@@ -44,16 +43,14 @@ pub record HaveMoved (old new : World) (list : List Entity) : Type 0 where
 pub none_moved : (w : World) → HaveMoved w w []
 none_moved w = record { moving = λ e h. absurd (both_ways _ refl h); standing = λ e _. refl; pools = λ pool _. refl; rest = refl }
 
--- where all that match have moved, all that move have
-pub all_moved : (old new : World) → HaveMoved old new (matches (keys_of old) (POSITION ∷ VELOCITY ∷ []) (FROZEN ∷ [])) → IsMoved old new
-all_moved old new h =
-    let same : (e : Entity) → list_any (is_same e) (matches (keys_of old) (POSITION ∷ VELOCITY ∷ []) (FROZEN ∷ [])) ≡ is_moving old e = λ e. any-matches (keys_of old) POSITION (VELOCITY ∷ []) (FROZEN ∷ []) e in
-    record {
-      moving = λ e moves. h.moving e (same e ∙ moves);
-      standing = λ e stands. h.standing e (same e ∙ stands);
-      pools = h.pools;
-      rest = h.rest;
-    }
+-- where those of a list have moved that has just those that move, all that move have
+pub all_moved : (old new : World) (list : List Entity) → HaveMoved old new list → ((e : Entity) → list_any (is_same e) list ≡ is_moving old e) → IsMoved old new
+all_moved old new list h same = record {
+  moving = λ e moves. h.moving e (same e ∙ moves);
+  standing = λ e stands. h.standing e (same e ∙ stands);
+  pools = h.pools;
+  rest = h.rest;
+}
 
 -- where some that move have moved, each is at its next place or where it was
 pub some_moved : (old new : World) (list : List Entity) → HaveMoved old new list → ((e : Entity) → list_any (is_same e) list ≡ true → is_moving old e ≡ true) → IsPartlyMoved old new
@@ -162,7 +159,7 @@ among (y ∷ ys) (suc k) x is = ap (λ (b : Bool). is_same x y || b) (among ys k
     always_or false = refl
 
 -- one that moves has a place and a velocity
-moving_rows : (w : World) (x : Entity) → is_moving w x ≡ true → (has_row w POSITION x ≡ true) × (has_row w VELOCITY x ≡ true)
+pub moving_rows : (w : World) (x : Entity) → is_moving w x ≡ true → (has_row w POSITION x ≡ true) × (has_row w VELOCITY x ≡ true)
 moving_rows w x moves =
     let both = first_two (is_in (keys_of w) x POSITION) (is_in (keys_of w) x VELOCITY) (not (list_any (is_in (keys_of w) x) (FROZEN ∷ []))) moves in
     (sym (is_in_pool w x POSITION) ∙ both.0, sym (is_in_pool w x VELOCITY) ∙ both.1)

@@ -42,15 +42,22 @@ scene_stays old new h limit world = record {
   groups = ap (λ (w : World). w.groups) world ∙ h.groups;
 }
 
--- a step keeps a scene, unless it adds a group
+-- a step keeps the components
+pub decls_after : (old new : Held) (command : Command) → Does old new command → new.world.decls ≡ old.world.decls
+decls_after old new command does = ap (λ (w : World). w.decls) does.world ∙ (step_same old.limit old.world command).decls
+
+-- and the groups, unless it adds one
+pub groups_after : (old new : Held) (command : Command) → (outcome_of old.limit old.world command).world.groups ≡ old.world.groups → Does old new command → new.world.groups ≡ old.world.groups
+groups_after old new command accepted_groups does =
+    ap (λ (w : World). w.groups) does.world ∙ step_cases (λ o. o.world.groups ≡ old.world.groups) old.limit old.world command (λ _ _. refl) (λ _. accepted_groups)
+
+-- so it keeps a scene
 pub scene_after : (old new : Held) (command : Command) → IsScene old → (outcome_of old.limit old.world command).world.groups ≡ old.world.groups → Does old new command → IsScene new
-scene_after old new command h accepted_groups does =
-    let groups : (step old.limit old.world command).world.groups ≡ old.world.groups = step_cases (λ o. o.world.groups ≡ old.world.groups) old.limit old.world command (λ _ _. refl) (λ _. accepted_groups) in
-    record {
-      limit = does.limit ∙ h.limit;
-      decls = ap (λ (w : World). w.decls) does.world ∙ (step_same old.limit old.world command).decls ∙ h.decls;
-      groups = ap (λ (w : World). w.groups) does.world ∙ groups ∙ h.groups;
-    }
+scene_after old new command h accepted_groups does = record {
+  limit = does.limit ∙ h.limit;
+  decls = decls_after old new command does ∙ h.decls;
+  groups = groups_after old new command accepted_groups does ∙ h.groups;
+}
 
 -- so does what leaves all as before
 pub scene_as_before : (old new : Held) → IsScene old → AsBefore old new → IsScene new
@@ -138,8 +145,8 @@ tick_ignored : (limit : ℕ) (w : World) (command : Command) → (step limit (re
 tick_ignored limit w command = search rules
 
 -- what was saved at tick 0 and loaded answers as what it was saved from
-pub copied_answers : (held : Held) (world : World) (command : Command) → IsScene held → world ≡ record held.world { tick = 0 } → reply_to (unheard SLOT_LIMIT (record world { tick = 0 })) command ≡ reply_to held command
-copied_answers held world command h is =
+pub copied_answers : (held : Held) (world : World) (packed : List (List Entity)) (command : Command) → IsScene held → world ≡ record held.world { tick = 0 } → reply_to (unheard SLOT_LIMIT (record world { tick = 0 }) packed) command ≡ reply_to held command
+copied_answers held world packed command h is =
     ap (λ (w : World). (step SLOT_LIMIT (record w { tick = 0 }) command).reply) is
     ∙ ap (λ (limit : ℕ). (step limit (record held.world { tick = 0 }) command).reply) (sym h.limit)
     ∙ tick_ignored held.limit held.world command

@@ -2,6 +2,7 @@
 
 ghost use Rattle.std.specs.Prelude.{◌≡◌, IfOk};
 ghost use Rattle.entity_id.specs.Identifiers.{p20_12};
+ghost use Rattle.world_model.specs.Contents.{keys_of};
 ghost use Rattle.world_model.specs.Worlds.{empty_world};
 ghost use Rattle.registry.specs.Held.{unheard};
 ghost use Rattle.registry_uses.specs.Scenes.{numbers, scene_components, IsScene};
@@ -22,14 +23,15 @@ pub const VELOCITY: u32 = 1;
 pub const FROZEN: u32 = 2;
 
 /// How many slots a scene has at most.
-pub const SLOT_LIMIT: u32 = 1_000;
+pub const SLOT_LIMIT: u32 = 1_000_000;
 
 /// A scene without entities, of which nobody hears. `OutOfMemory` where there is no memory for it.
 /// (EnTT: the constructor, and `registry.storage<T>()` for each component.)
 pub fn begin<L: Listener>(alloc: Global) -> Result<Registry<L>, OutOfMemory>
     ensures scene { IfOk result (λ registry. IsScene registry) }
     ensures empty { IfOk result (λ registry.
-        registry ≡ unheard SLOT_LIMIT (empty_world p20_12 scene_components)) }
+        registry ≡ unheard SLOT_LIMIT (empty_world p20_12 scene_components)
+        (keys_of (empty_world p20_12 scene_components))) }
 {
     let decls = declare(alloc)?;
     Registry::new(alloc, P20_12, SLOT_LIMIT, decls)

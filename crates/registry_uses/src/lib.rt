@@ -3,8 +3,8 @@
 //! places and velocities, and some are frozen.
 //!
 //! `beginning.rt` makes a scene, `spawning.rt` makes entities and destroys them, `steering.rt` sets,
-//! patches and removes rows, `moving.rt` walks a view, `listening.rt` connects a listener, and
-//! `saving.rt` saves and loads. What the contracts cite stands in `specs/Scenes.antt` and
+//! patches and removes rows, `moving.rt` walks a view, `walking.rt` a group, `listening.rt` connects a
+//! listener, and `saving.rt` saves and loads. What the contracts cite stands in `specs/Scenes.antt` and
 //! `specs/Moving.antt`.
 #![tactic(auto)]
 
@@ -15,6 +15,7 @@ mod rows;
 mod saving;
 mod spawning;
 mod steering;
+mod walking;
 
 pub use beginning::{FROZEN, POSITION, SLOT_LIMIT, VELOCITY, begin};
 pub use listening::heard_of_end;
@@ -22,6 +23,7 @@ pub use moving::advance_all;
 pub use saving::copy;
 pub use spawning::{despawn, respawn, spawn};
 pub use steering::{lift, set_frozen, steer};
+pub use walking::{MOVING, advance_members, group_moving};
 
 #[cfg(test)]
 mod tests;

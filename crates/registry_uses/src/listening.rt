@@ -10,12 +10,12 @@ ghost use Rattle.world_model.specs.Outcomes.{tells};
 ghost use Rattle.world_model.specs.Steps.{step};
 ghost use Rattle.registry.specs.Held.{reply_to};
 ghost use Rattle.registry.specs.Listeners.{listeners_at};
-ghost use Rattle.registry.specs.Packing.{Repacks};
+ghost use Rattle.registry.specs.Packing.{packed_after};
 ghost use Rattle.registry_uses.specs.Scenes.{IsScene};
 
 use crate::beginning::POSITION;
 use entity_id::Entity;
-use registry::Registry;
+use registry::{Registry, packing_without_groups};
 use signal_sink::Recorder;
 use sparse_set::Steps;
 use std::alloc::Global;
@@ -41,7 +41,7 @@ pub fn heard_of_end<G: Ledger>(
         then tells event.Destroy POSITION entity ∷ [] else [])) }
     ensures world { OnOk result (registry.new.world ≡
         (step registry.old.limit registry.old.world (Destroy entity)).world) }
-    ensures packed { OnOk result (Repacks registry.old registry.new (Destroy entity)) }
+    ensures packed { OnOk result (registry.new.packed ≡ packed_after registry.old (Destroy entity)) }
     ensures was_live { OnOk result (reply_to registry.old (Valid entity) ≡ Truth true) }
     ensures err { OnErr result (registry.new.world ≡ registry.old.world) }
     ensures same_order { OnErr result (registry.new.packed ≡ registry.old.packed) }
@@ -58,6 +58,7 @@ pub fn heard_of_end<G: Ledger>(
         refused ≢ Refusal.TooMany → refused ≡ Refusal.OutOfMemory) }
 {
     registry.law();
+    packing_without_groups();
     let number = match registry.connect(EventKind::Destroy, POSITION, Recorder::new(alloc)) {
         Ok(number) => number,
         Err(refused) => return Err(refused.cause),

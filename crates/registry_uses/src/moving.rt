@@ -10,7 +10,7 @@ ghost use Rattle.registry_uses.specs.Scenes.{IsScene};
 use crate::beginning::{FROZEN, POSITION, VELOCITY};
 use crate::rows::moved_by;
 use entity_id::{Entity, Pools};
-use registry::Registry;
+use registry::{Registry, packing_without_groups};
 use signal_sink::Listener;
 use std::alloc::Global;
 use world_model::Refusal;
@@ -38,7 +38,8 @@ pub fn advance_all<L: Listener>(alloc: Global, registry: &mut Registry<L>) -> Re
     Ok(())
 }
 
-fn pools_of(alloc: Global, numbers: &[u32]) -> Result<Pools, Refusal>
+// A list of pools.
+pub fn pools_of(alloc: Global, numbers: &[u32]) -> Result<Pools, Refusal>
     ensures ok { IfOk result (λ pools. pools ≡ numbers.now) }
     ensures cause { IfErr result (λ refused. refused ≡ Refusal.OutOfMemory) }
 {
@@ -62,6 +63,7 @@ fn advance<L: Listener>(registry: &mut Registry<L>, entity: Entity) -> Result<()
         (refusal_to registry.old (Get entity POSITION) ≡ Some refused)
         ⊎ (refusal_to registry.old (Get entity VELOCITY) ≡ Some refused)) }
 {
+    packing_without_groups();
     let place = registry.get(entity, POSITION)?;
     let velocity = registry.get(entity, VELOCITY)?;
     registry.replace(entity, POSITION, moved_by(&place, &velocity))

@@ -7,13 +7,13 @@ ghost use Rattle.world_model.specs.declared.command.Reply.TheVariants.{Made, Ref
 ghost use Rattle.world_model.specs.declared.refusal.Refusal.{Refusal};
 ghost use Rattle.world_model.specs.Slots.{is_live};
 ghost use Rattle.registry.specs.Held.{AsBefore, Does, reply_to, refusal_to};
-ghost use Rattle.registry.specs.Packing.{appended_in, Repacks};
+ghost use Rattle.registry.specs.Packing.{appended_in, packed_after};
 ghost use Rattle.registry_uses.specs.Scenes.{next_made, pair, DoesAll, IsScene};
 
 use crate::beginning::POSITION;
 use crate::rows::pair_of;
 use entity_id::Entity;
-use registry::Registry;
+use registry::{Registry, packing_without_groups};
 use signal_sink::Listener;
 use sparse_set::Steps;
 use std::sync::ledger::Ledger;
@@ -57,6 +57,7 @@ pub fn spawn<L: Listener, G: Ledger>(
         is_live registry.new.world.slots other ≡ is_live registry.old.world.slots other) }
 {
     registry.law();
+    packing_without_groups();
     let entity = registry.create()?;
     match registry.emplace(entity, POSITION, pair_of(x, y), steps) {
         Ok(()) => Ok(entity),
@@ -85,12 +86,13 @@ pub fn despawn<L: Listener, G: Ledger>(
     ensures others { (other : Entity) → other ≢ entity →
         is_live registry.old.world.slots other ≡ true →
         is_live registry.new.world.slots other ≡ true }
-    ensures packed { OnOk result (Repacks registry.old registry.new (Destroy entity)) }
+    ensures packed { OnOk result (registry.new.packed ≡ packed_after registry.old (Destroy entity)) }
     ensures answer { is_ok result ≡ is_live registry.old.world.slots entity }
     ensures err { IfErr result (λ refused. refused ≡ Refusal.Dead) }
     ensures unchanged { OnErr result (AsBefore registry.old registry.new) }
 {
     registry.law();
+    packing_without_groups();
     registry.destroy(entity, steps)
 }
 
@@ -113,12 +115,13 @@ pub fn respawn<L: Listener, G: Ledger>(
     ensures others { (other : Entity) → other ≢ entity →
         is_live registry.old.world.slots other ≡ true →
         is_live registry.new.world.slots other ≡ true }
-    ensures packed { OnOk result (Repacks registry.old registry.new (Destroy entity)) }
+    ensures packed { OnOk result (registry.new.packed ≡ packed_after registry.old (Destroy entity)) }
     ensures answer { is_ok result ≡ is_live registry.old.world.slots entity }
     ensures err { IfErr result (λ refused. refused ≡ Refusal.Dead) }
     ensures unchanged { OnErr result (AsBefore registry.old registry.new) }
 {
     registry.law();
+    packing_without_groups();
     registry.destroy(entity, steps)?;
     registry.create()
 }

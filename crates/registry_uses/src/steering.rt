@@ -7,14 +7,14 @@ ghost use Rattle.world_model.specs.Components.{with_field};
 ghost use Rattle.world_model.specs.Contents.{has_row, row_at};
 ghost use Rattle.world_model.specs.Refusing.{when_dead};
 ghost use Rattle.registry.specs.Held.{AsBefore, Does, reply_to, refusal_to};
-ghost use Rattle.registry.specs.Packing.{Repacks};
+ghost use Rattle.registry.specs.Packing.{packed_after};
 ghost use Rattle.registry_uses.specs.Moving.{lifted_height};
 ghost use Rattle.registry_uses.specs.Scenes.{pair, IsScene};
 
 use crate::beginning::{FROZEN, POSITION, VELOCITY};
 use crate::rows::{lifted, pair_of};
 use entity_id::Entity;
-use registry::Registry;
+use registry::{Registry, packing_without_groups};
 use signal_sink::Listener;
 use sparse_set::Steps;
 use std::sync::ledger::Ledger;
@@ -34,7 +34,7 @@ pub fn steer<L: Listener, G: Ledger>(
     ensures scene { IsScene registry.new }
     ensures does { OnOk result (Does registry.old registry.new
         (EmplaceOrReplace entity VELOCITY (pair x y))) }
-    ensures packed { OnOk result (Repacks registry.old registry.new
+    ensures packed { OnOk result (registry.new.packed ≡ packed_after registry.old
         (EmplaceOrReplace entity VELOCITY (pair x y))) }
     ensures told { OnOk result (reply_to registry.new (Get entity VELOCITY) ≡ Values (pair x y)) }
     ensures err { OnErr result (AsBefore registry.old registry.new) }
@@ -42,6 +42,7 @@ pub fn steer<L: Listener, G: Ledger>(
         when_dead registry.old.world entity ≡ Some refused) }
 {
     registry.law();
+    packing_without_groups();
     registry.emplace_or_replace(entity, VELOCITY, pair_of(x, y), steps)
 }
 
@@ -63,6 +64,7 @@ pub fn lift<L: Listener>(registry: &mut Registry<L>, entity: Entity, by: i64) ->
         refusal_to registry.old (Get entity POSITION) ≡ Some refused) }
 {
     registry.law();
+    packing_without_groups();
     let place = registry.get(entity, POSITION)?;
     registry.patch(entity, POSITION, 1, lifted(&place, by))
 }
@@ -80,7 +82,7 @@ pub fn set_frozen<L: Listener, G: Ledger>(
     ensures scene { IsScene registry.new }
     ensures does { OnOk result (Does registry.old registry.new (if frozen
         then EmplaceOrReplace entity FROZEN (pair (pos 0) (pos 0)) else Remove entity FROZEN)) }
-    ensures packed { OnOk result (Repacks registry.old registry.new (if frozen
+    ensures packed { OnOk result (registry.new.packed ≡ packed_after registry.old (if frozen
         then EmplaceOrReplace entity FROZEN (pair (pos 0) (pos 0)) else Remove entity FROZEN)) }
     ensures frozen { OnOk result (has_row registry.new.world FROZEN entity ≡ frozen) }
     ensures live { OnOk result (reply_to registry.old (Valid entity) ≡ Truth true) }
@@ -89,6 +91,7 @@ pub fn set_frozen<L: Listener, G: Ledger>(
         when_dead registry.old.world entity ≡ Some refused) }
 {
     registry.law();
+    packing_without_groups();
     if frozen {
         registry.emplace_or_replace(entity, FROZEN, pair_of(0, 0), steps)?;
     } else {

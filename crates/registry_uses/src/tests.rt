@@ -2,6 +2,7 @@
 
 mod calls;
 mod components;
+mod groups;
 mod lifecycle;
 mod listeners;
 mod packing;
@@ -10,3 +11,4 @@ mod refusals;
 mod running;
 mod samples;
 mod scenes;
+mod sorting;

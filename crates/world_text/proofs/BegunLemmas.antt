@@ -9,7 +9,8 @@ use Rattle.entity_id.proofs.ListLemmas.{all-append}
 use Rattle.world_model.specs.declared.component.Decl.{Decl}
 use Rattle.world_text.specs.declared.script.ScriptLine.{ScriptLine}
 use Rattle.world_text.specs.declared.script.ScriptLine.TheVariants.{Run, Watch, Unwatch}
-use Rattle.world_text.specs.Scripts.{IsScriptLine, IsLineWrittenAs, IsLineFirst, IsScript, IsBegun, IsBadScriptLine, begun_text, first_line, last_line, script_line_text, event_word, name_at}
+use Rattle.world_text.specs.NameLists.{name_at}
+use Rattle.world_text.specs.Scripts.{IsScriptLine, IsLineWrittenAs, IsLineFirst, IsScript, IsBegun, IsBadScriptLine, begun_text, first_line, last_line, script_line_text, event_word}
 
 -- before the first line
 pub begun_none : (profile : Profile) (decls : List Decl) (text behind : List ℕ) → text ≡ first_line ++ behind → IsBegun profile decls text [] behind

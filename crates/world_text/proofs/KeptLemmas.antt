@@ -41,7 +41,7 @@ times-head x xs =
     omega arith
 
 -- lists in ascending order with the same elements are one list
-same_counts : (xs ys : List ℕ) → IsNonDecreasing xs → IsNonDecreasing ys → ((k : ℕ) → times k xs ≡ times k ys) → xs ≡ ys
+pub same_counts : (xs ys : List ℕ) → IsNonDecreasing xs → IsNonDecreasing ys → ((k : ℕ) → times k xs ≡ times k ys) → xs ≡ ys
 same_counts [] [] p q same = refl
 same_counts [] (y ∷ ys) p q same = absurd (omega (arith, same y, times-head y ys))
 same_counts (x ∷ xs) [] p q same = absurd (omega (arith, same x, times-head x xs))

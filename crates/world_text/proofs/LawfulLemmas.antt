@@ -57,11 +57,11 @@ whole_is_lawful format lines is_format sound whole = record {
       listed = all_listed (flat_map slot_in lines) (flat_map next_in lines) whole.settled_all sound.listed;
     };
     pools = beside_all (AreLawfulRows format.profile (flat_map slot_in lines)) (pools_in format.profile lines) (flat_map decl_in lines) whole.pools_all sound.pools;
-    groups = record { few = omega arith; declared = tt; well_formed = tt; coexist = λ i j d less within. absurd (omega arith) };
+    groups = sound.groups.lawful;
   };
   profile = refl;
   tick = first_tick (flat_map tick_in lines) 1000000000000 sound.ticks;
-  no_groups = refl;
+  ascending = sound.groups.ascending;
   named = record { few = sound.decls.few; each = sound.decls.named; apart = sound.decls.apart };
 }
 

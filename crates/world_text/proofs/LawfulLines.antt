@@ -1,5 +1,5 @@
 -- A line that fits keeps what lines stand for lawful, and an end line makes it whole.
-use Rattle.std.proofs.Common.{◌≡◌, ℕ, ◌<◌, ◌≤◌, Bool, true, false, not, ◌&&◌, List, [], ◌∷◌, ◌++◌, length, refl, sym, ap, subst, ◌∙◌, eqb, leb, arith}
+use Rattle.std.proofs.Common.{◌≡◌, ℕ, ◌<◌, ◌≤◌, Bool, true, false, not, ◌&&◌, List, [], ◌∷◌, ◌++◌, length, map, refl, sym, ap, subst, ◌∙◌, eqb, leb, arith}
 use Rattle.std.specs.Prelude.{slice_get, nat_lt}
 use Rattle.std.specs.List.{flat_map, list_any, list_all}
 use Rattle.std.specs.Option.{option_map_or}
@@ -14,17 +14,17 @@ use Rattle.world_text.specs.declared.format.Format.{Format}
 use Rattle.world_text.specs.declared.section.Section.{Section}
 use Rattle.world_text.specs.declared.section.Section.TheVariants as section
 use Rattle.world_text.specs.FieldValues.{FieldValue}
-use Rattle.world_text.specs.LineKinds.{Line}
+use Rattle.world_text.specs.LineKinds.{Line, NamedGroup}
 use Rattle.world_text.specs.LineKinds as line
 use Rattle.world_text.specs.Formats.{IsFormat}
 use Rattle.world_text.specs.Sections.{order, is_between}
 use Rattle.world_text.specs.Lines.{IsLine, IsNamedDecl, IsRowLine}
-use Rattle.world_text.specs.Meaning.{decl_in, tick_in, slot_in, next_in, pools_in}
-use Rattle.world_text.specs.Fitting.{section_of, last_section, all_settled, goes_on_last, fits, is_unlisted}
-use Rattle.world_text.proofs.MeaningLemmas.{gains, keeps, last_section_push, no_next_yet, no_pool_yet, IsBesidePools, pools_in-row, pools_in-pool, pools_in-other}
+use Rattle.world_text.specs.Meaning.{decl_in, group_in, group_of, groups_in, tick_in, slot_in, next_in, pools_in}
+use Rattle.world_text.specs.Fitting.{section_of, last_section, all_settled, goes_on_last, are_listed, may_join, fits, is_unlisted}
+use Rattle.world_text.proofs.MeaningLemmas.{gains, keeps, groups_keep, groups_gain, groups_before, last_section_push, no_group_yet, no_next_yet, no_pool_yet, IsBesidePools, pools_in-row, pools_in-pool, pools_in-other}
 use Rattle.world_text.proofs.SettledLemmas.{settled_same, unlisted_by_flag}
 use Rattle.world_text.proofs.LawfulRows.{profile_limits}
-use Rattle.world_text.proofs.LawfulParts.{parts_of, AreSound, decl_push, tick_push, slot_push, next_push, pool_push, row_push}
+use Rattle.world_text.proofs.LawfulParts.{parts_of, AreSound, decl_push, group_push, tick_push, slot_push, next_push, pool_push, row_push}
 
 -- the part that lines have reached is between those that a test names
 between_parts : (first last reached_one : Section) → is_between first last reached_one ≡ true → (order first ≤ order reached_one) × (order reached_one ≤ order last)
@@ -33,9 +33,10 @@ between_parts first last reached_one h =
     (leb-true _ _ parts.0, leb-true _ _ parts.1)
 
 -- a line that adds to no part
-same_parts : (profile : Profile) (before : List Line) (l : Line) → decl_in l ≡ [] → tick_in l ≡ [] → slot_in l ≡ [] → next_in l ≡ [] → IsBesidePools l → parts_of profile before ≡ parts_of profile (before ++ l ∷ [])
-same_parts profile before l no_decl no_tick no_slot no_next beside = λ i. record {
+same_parts : (profile : Profile) (before : List Line) (l : Line) → decl_in l ≡ [] → group_in l ≡ [] → tick_in l ≡ [] → slot_in l ≡ [] → next_in l ≡ [] → IsBesidePools l → parts_of profile before ≡ parts_of profile (before ++ l ∷ [])
+same_parts profile before l no_decl no_group no_tick no_slot no_next beside = λ i. record {
   decls = keeps decl_in before l _ no_decl refl i;
+  groups = groups_keep before l no_decl no_group i;
   ticks = keeps tick_in before l _ no_tick refl i;
   slots = keeps slot_in before l _ no_slot refl i;
   free = keeps next_in before l _ no_next refl i;
@@ -54,15 +55,34 @@ component_after format before decl is_decl fit sound =
     let tests = and_parts (is_between section.Version section.Components (last_section before)) (nat_lt (length (flat_map decl_in before)) 64 && not (list_any (has_name decl.name) (flat_map decl_in before))) fit in
     let early = between_parts section.Version section.Components (last_section before) tests.0 in
     let no_pool : pools_in format.profile before ≡ [] = no_pool_yet format.profile before (omega (arith, early.1)) in
+    let no_group : flat_map group_in before ≡ [] = no_group_yet before (omega (arith, early.1)) in
     subst (AreSound format)
     (λ i. record {
       decls = gains decl_in before l _ refl i;
+      groups = groups_before before decl no_group i;
       ticks = keeps tick_in before l _ refl refl i;
       slots = keeps slot_in before l _ refl refl i;
       free = keeps next_in before l _ refl refl i;
       pools = sym (pools_in-other format.profile before l tt) i;
     })
-    (decl_push format (parts_of format.profile before) decl no_pool is_decl tests.1 sound)
+    (decl_push format (parts_of format.profile before) decl (ap (map (group_of (flat_map decl_in before))) no_group) no_pool is_decl tests.1 sound)
+
+group_after : (format : Format) (before : List Line) (named : NamedGroup) → fits format before (line.Group named) ≡ true → IsSoundAfter format before → IsSoundAfter format (before ++ line.Group named ∷ [])
+group_after format before named fit sound =
+    let l : Line = line.Group named in
+    let decls = flat_map decl_in before in
+    let joins : Bool = may_join (groups_in before) (group_of (flat_map decl_in before) named) in
+    let tests = and_parts (is_between section.Version section.Groups (last_section before)) (are_listed (flat_map decl_in before) named && joins) fit in
+    subst (AreSound format)
+    (λ i. record {
+      decls = keeps decl_in before l _ refl refl i;
+      groups = groups_gain before named i;
+      ticks = keeps tick_in before l _ refl refl i;
+      slots = keeps slot_in before l _ refl refl i;
+      free = keeps next_in before l _ refl refl i;
+      pools = sym (pools_in-other format.profile before l tt) i;
+    })
+    (group_push format (parts_of format.profile before) named (and_parts (are_listed (flat_map decl_in before) named) joins tests.1).1 sound)
 
 tick_after : (format : Format) (before : List Line) (tick : ℕ) → tick ≤ 1000000000000 → IsSoundAfter format before → IsSoundAfter format (before ++ line.Tick tick ∷ [])
 tick_after format before tick low sound =
@@ -70,6 +90,7 @@ tick_after format before tick low sound =
     subst (AreSound format)
     (λ i. record {
       decls = keeps decl_in before l _ refl refl i;
+      groups = groups_keep before l refl refl i;
       ticks = gains tick_in before l _ refl i;
       slots = keeps slot_in before l _ refl refl i;
       free = keeps next_in before l _ refl refl i;
@@ -87,6 +108,7 @@ slot_after format before slot low fit sound =
     subst (AreSound format)
     (λ i. record {
       decls = keeps decl_in before l _ refl refl i;
+      groups = groups_keep before l refl refl i;
       ticks = keeps tick_in before l _ refl refl i;
       slots = gains slot_in before l _ refl i;
       free = keeps next_in before l _ refl refl i;
@@ -101,6 +123,7 @@ next_after format before index fit sound =
     subst (AreSound format)
     (λ i. record {
       decls = keeps decl_in before l _ refl refl i;
+      groups = groups_keep before l refl refl i;
       ticks = keeps tick_in before l _ refl refl i;
       slots = keeps slot_in before l _ refl refl i;
       free = gains next_in before l _ refl i;
@@ -116,6 +139,7 @@ pool_after format before name fit sound =
     subst (AreSound format)
     (λ i. record {
       decls = keeps decl_in before l _ refl refl i;
+      groups = groups_keep before l refl refl i;
       ticks = keeps tick_in before l _ refl refl i;
       slots = keeps slot_in before l _ refl refl i;
       free = keeps next_in before l _ refl refl i;
@@ -130,6 +154,7 @@ row_after format before entity values is_format is_row fit sound =
     subst (AreSound format)
     (λ i. record {
       decls = keeps decl_in before l _ refl refl i;
+      groups = groups_keep before l refl refl i;
       ticks = keeps tick_in before l _ refl refl i;
       slots = keeps slot_in before l _ refl refl i;
       free = keeps next_in before l _ refl refl i;
@@ -139,14 +164,15 @@ row_after format before entity values is_format is_row fit sound =
 
 -- whichever line it is
 pub line_after : (format : Format) (before : List Line) (l : Line) → IsFormat format → IsLine format l → fits format before l ≡ true → IsSoundAfter format before → IsSoundAfter format (before ++ l ∷ [])
-line_after format before line.Version is_format is_line fit sound = subst (AreSound format) (same_parts format.profile before line.Version refl refl refl refl tt) sound
+line_after format before line.Version is_format is_line fit sound = subst (AreSound format) (same_parts format.profile before line.Version refl refl refl refl refl tt) sound
 line_after format before (line.Component decl) is_format is_line fit sound = component_after format before decl is_line fit sound
+line_after format before (line.Group named) is_format is_line fit sound = group_after format before named fit sound
 line_after format before (line.Tick tick) is_format is_line fit sound = tick_after format before tick is_line sound
 line_after format before (line.Slot slot) is_format is_line fit sound = slot_after format before slot is_line fit sound
 line_after format before (line.Next index) is_format is_line fit sound = next_after format before index fit sound
 line_after format before (line.Pool name) is_format is_line fit sound = pool_after format before name fit sound
 line_after format before (line.Row entity values) is_format is_line fit sound = row_after format before entity values is_format is_line fit sound
-line_after format before line.End is_format is_line fit sound = subst (AreSound format) (same_parts format.profile before line.End refl refl refl refl tt) sound
+line_after format before line.End is_format is_line fit sound = subst (AreSound format) (same_parts format.profile before line.End refl refl refl refl refl tt) sound
 
 -- ---- the end
 
@@ -155,10 +181,10 @@ pub record IsWhole (format : Format) (lines : List Line) : Type 0 where
   pub settled_all : all_settled lines ≡ true
   pub pools_all : length (pools_in format.profile lines) ≡ length (flat_map decl_in lines)
 
-not_ended : (before : List Line) (l : Line) (first last : Section) → is_between first last (last_section before) ≡ true → order last ≤ order (section_of l) → order (section_of l) < 7 → last_section (before ++ l ∷ []) ≡ section.End → ⊥
+not_ended : (before : List Line) (l : Line) (first last : Section) → is_between first last (last_section before) ≡ true → order last ≤ order (section_of l) → order (section_of l) < 8 → last_section (before ++ l ∷ []) ≡ section.End → ⊥
 not_ended before l first last fit low early ended =
     let between = between_parts first last (last_section before) fit in
-    let at : order (section_of l) ≡ 7 = ap order (sym (last_section_push before l (omega (arith, between.1))) ∙ ended) in
+    let at : order (section_of l) ≡ 8 = ap order (sym (last_section_push before l (omega (arith, between.1))) ∙ ended) in
     omega arith
 
 end_whole : (format : Format) (before : List Line) → fits format before line.End ≡ true → IsWhole format (before ++ line.End ∷ [])
@@ -175,7 +201,8 @@ end_whole format before fit =
 pub whole_after : (format : Format) (before : List Line) (l : Line) → fits format before l ≡ true → last_section (before ++ l ∷ []) ≡ section.End → IsWhole format (before ++ l ∷ [])
 whole_after format before line.Version fit ended = absurd (not_ended before line.Version section.Start section.Start fit (omega arith) (omega arith) ended)
 whole_after format before (line.Component decl) fit ended = absurd (not_ended before (line.Component decl) section.Version section.Components (and_parts _ _ fit).0 (omega arith) (omega arith) ended)
-whole_after format before (line.Tick tick) fit ended = absurd (not_ended before (line.Tick tick) section.Version section.Components fit (omega arith) (omega arith) ended)
+whole_after format before (line.Group named) fit ended = absurd (not_ended before (line.Group named) section.Version section.Groups (and_parts _ _ fit).0 (omega arith) (omega arith) ended)
+whole_after format before (line.Tick tick) fit ended = absurd (not_ended before (line.Tick tick) section.Version section.Groups fit (omega arith) (omega arith) ended)
 whole_after format before (line.Slot slot) fit ended = absurd (not_ended before (line.Slot slot) section.Tick section.Slots (and_parts _ _ fit).0 (omega arith) (omega arith) ended)
 whole_after format before (line.Next index) fit ended = absurd (not_ended before (line.Next index) section.Tick section.FreeList (and_parts _ _ fit).0 (omega arith) (omega arith) ended)
 whole_after format before (line.Pool name) fit ended = absurd (not_ended before (line.Pool name) section.Tick section.Pools (and_parts _ _ fit).0 (omega arith) (omega arith) ended)

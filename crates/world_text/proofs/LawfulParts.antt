@@ -1,11 +1,10 @@
 -- What admissible lines stand for is lawful as far as it goes: each part after one line more.
-use Rattle.std.proofs.Common.{◌≡◌, ℕ, zero, suc, ◌-◌, ◌<◌, ◌≤◌, Bool, true, false, not, ◌&&◌, ltb, List, [], ◌∷◌, ◌++◌, length, get_or, set, Some, refl, sym, ap, subst, ◌∙◌, inl, arith}
+use Rattle.std.proofs.Common.{◌≡◌, ℕ, zero, suc, ◌-◌, ◌<◌, ◌≤◌, true, false, not, ◌&&◌, ltb, List, [], ◌∷◌, ◌++◌, length, get_or, set, Some, refl, sym, ap, subst, ◌∙◌, inl, arith}
 use Rattle.std.specs.Prelude.{slice_get, nat_lt}
 use Rattle.std.specs.List.{AllByRecursion, flat_map, list_any}
 use Rattle.std.specs.Option.{option_map_or}
 use Rattle.std.proofs.lemmas.List.{length-append}
-use Rattle.std.proofs.lemmas.List.Folds.{list_any-append}
-use Rattle.std.proofs.lemmas.Bool.{and_parts, and_from, or_parts, or_from, ltb-true, not_from_false, not-true}
+use Rattle.std.proofs.lemmas.Bool.{and_parts, ltb-true, not-true}
 use Rattle.std.proofs.lemmas.Option.{slice_get_within, get_or_from_slice_get}
 use Rattle.entity_id.specs.declared.entity.Profile.{Profile}
 use Rattle.entity_id.specs.declared.entity.Entity.{Entity}
@@ -13,24 +12,28 @@ use Rattle.entity_id.specs.Identifiers.{HasLimits}
 use Rattle.entity_id.proofs.ListLemmas.{all-append}
 use Rattle.world_model.specs.declared.component.Decl.{Decl}
 use Rattle.world_model.specs.declared.component.Row.{Row}
+use Rattle.world_model.specs.declared.group.GroupDecl.{GroupDecl}
 use Rattle.world_model.specs.declared.slot.Slot.{Slot}
 use Rattle.world_model.specs.Components.{kinds_of, has_name}
 use Rattle.world_model.specs.Slots.{is_live}
 use Rattle.world_model.specs.Worlds.{AreLawfulRows}
 use Rattle.world_text.specs.declared.format.Format.{Format}
 use Rattle.world_text.specs.FieldValues.{FieldValue}
-use Rattle.world_text.specs.LineKinds.{Line}
+use Rattle.world_text.specs.LineKinds.{Line, NamedGroup}
 use Rattle.world_text.specs.Lines.{IsNamedDecl, IsRowLine}
-use Rattle.world_text.specs.Meaning.{decl_in, tick_in, slot_in, next_in, row_of, pools_in, settled_from}
-use Rattle.world_text.specs.Fitting.{is_above, are_of_kinds, goes_on_last}
+use Rattle.world_text.specs.Meaning.{decl_in, groups_in, group_of, tick_in, slot_in, next_in, row_of, pools_in, settled_from}
+use Rattle.world_text.specs.Fitting.{is_above, are_of_kinds, goes_on_last, may_join}
 use Rattle.world_text.specs.Documents.{are_named_apart}
+use Rattle.world_text.proofs.GroupLemmas.{AreSoundGroups, no_groups_sound, groups_push}
 use Rattle.world_text.proofs.LawfulRows.{row_fits, row_is_row}
+use Rattle.world_text.proofs.NameLemmas.{apart_push}
 use Rattle.world_text.proofs.LawfulSlots.{IsListed, listed_push}
 use Rattle.world_text.proofs.LawfulPools.{AreBeside, beside_push, beside_set, there, no_rows_lawful, rows_push}
 
 -- what lines stand for, part by part
 pub record Parts : Type 0 where
   pub decls : List Decl
+  pub groups : List GroupDecl
   pub ticks : List ℕ
   pub slots : List Slot
   pub free : List ℕ
@@ -39,6 +42,7 @@ pub record Parts : Type 0 where
 abbrev pub parts_of : Profile → List Line → Parts
 parts_of profile lines = record {
   decls = flat_map decl_in lines;
+  groups = groups_in lines;
   ticks = flat_map tick_in lines;
   slots = flat_map slot_in lines;
   free = flat_map next_in lines;
@@ -59,6 +63,7 @@ pub record AreSoundSlots (format : Format) (slots : List Slot) : Type 0 where
 -- lawful parts, some of which may be missing: pools of the first components, and free slots that are not yet on the free list
 pub record AreSound (format : Format) (parts : Parts) : Type 0 where
   pub decls : AreSoundDecls parts.decls
+  pub groups : AreSoundGroups (length parts.decls) parts.groups
   pub ticks : AllByRecursion (λ tick. tick ≤ 1000000000000) parts.ticks
   pub slots : AreSoundSlots format parts.slots
   pub listed : (index : ℕ) → IsListed parts.slots parts.free index
@@ -67,6 +72,7 @@ pub record AreSound (format : Format) (parts : Parts) : Type 0 where
 pub nothing_sound : (format : Format) → AreSound format (parts_of format.profile [])
 nothing_sound format = record {
   decls = record { few = omega arith; named = tt; apart = refl };
+  groups = no_groups_sound 0;
   ticks = tt;
   slots = record { few = omega arith; versions = tt };
   listed = λ index. inl refl;
@@ -75,23 +81,12 @@ nothing_sound format = record {
 
 -- ---- a component
 
-apart_push : (decls : List Decl) (decl : Decl) → are_named_apart decls ≡ true → list_any (has_name decl.name) decls ≡ false → are_named_apart (decls ++ decl ∷ []) ≡ true
-apart_push [] decl apart new = refl
-apart_push (d ∷ decls) decl apart new =
-    let among : Bool = list_any (λ other. has_name other.name d) decls in
-    let parts = and_parts (not among) (are_named_apart decls) apart in
-    let others = or_parts (has_name decl.name d) (list_any (has_name decl.name) decls) new in
-    let none : list_any (λ other. has_name other.name d) (decls ++ decl ∷ []) ≡ false =
-    list_any-append (λ other. has_name other.name d) decls (decl ∷ [])
-    ∙ or_from _ _ (not-true among parts.0) (or_from _ _ others.0 refl) in
-    and_from _ _ (not_from_false _ none) (apart_push decls decl parts.1 others.1)
-
 -- where no pool stands yet, the components and slots may change
 no_pools_beside : {X Y : Type 0} (R : X → Y → Type 0) (ys : List Y) (xs : List X) → ys ≡ [] → AreBeside R ys xs
 no_pools_beside R ys xs none = subst (λ l. AreBeside R l xs) (sym none) tt
 
-pub decl_push : (format : Format) (parts : Parts) (decl : Decl) → parts.pools ≡ [] → IsNamedDecl decl → (nat_lt (length parts.decls) 64 && not (list_any (has_name decl.name) parts.decls)) ≡ true → AreSound format parts → AreSound format (record parts { decls = parts.decls ++ decl ∷ [] })
-decl_push format parts decl none is_decl fits sound =
+pub decl_push : (format : Format) (parts : Parts) (decl : Decl) → parts.groups ≡ [] → parts.pools ≡ [] → IsNamedDecl decl → (nat_lt (length parts.decls) 64 && not (list_any (has_name decl.name) parts.decls)) ≡ true → AreSound format parts → AreSound format (record parts { decls = parts.decls ++ decl ∷ [] })
+decl_push format parts decl no_groups none is_decl fits sound =
     let tests = and_parts (ltb (length parts.decls) 64) (not (list_any (has_name decl.name) parts.decls)) fits in
     let room : length parts.decls < 64 = ltb-true _ _ tests.0 in
     record {
@@ -100,17 +95,31 @@ decl_push format parts decl none is_decl fits sound =
         named = all-append IsNamedDecl parts.decls (decl ∷ []) sound.decls.named (is_decl, tt);
         apart = apart_push parts.decls decl sound.decls.apart (not-true _ tests.1);
       };
+      groups = subst (AreSoundGroups (length (parts.decls ++ decl ∷ []))) (sym no_groups) (no_groups_sound (length (parts.decls ++ decl ∷ [])));
       ticks = sound.ticks;
       slots = sound.slots;
       listed = sound.listed;
       pools = no_pools_beside _ parts.pools _ none;
     }
 
+-- ---- a group
+
+pub group_push : (format : Format) (parts : Parts) (named : NamedGroup) → may_join parts.groups (group_of parts.decls named) ≡ true → AreSound format parts → AreSound format (record parts { groups = parts.groups ++ group_of parts.decls named ∷ [] })
+group_push format parts named joins sound = record {
+  decls = sound.decls;
+  groups = groups_push parts.decls parts.groups named joins sound.groups;
+  ticks = sound.ticks;
+  slots = sound.slots;
+  listed = sound.listed;
+  pools = sound.pools;
+}
+
 -- ---- a tick number and a slot
 
 pub tick_push : (format : Format) (parts : Parts) (tick : ℕ) → tick ≤ 1000000000000 → AreSound format parts → AreSound format (record parts { ticks = parts.ticks ++ tick ∷ [] })
 tick_push format parts tick low sound = record {
   decls = sound.decls;
+  groups = sound.groups;
   ticks = all-append _ parts.ticks (tick ∷ []) sound.ticks (low, tt);
   slots = sound.slots;
   listed = sound.listed;
@@ -122,6 +131,7 @@ slot_push format parts slot no_pool no_next low fits sound =
     let room : length parts.slots < format.slot_limit = ltb-true _ _ fits in
     record {
       decls = sound.decls;
+      groups = sound.groups;
       ticks = sound.ticks;
       slots = record {
         few = omega (arith, length-append parts.slots (slot ∷ []), sound.slots.few);
@@ -136,6 +146,7 @@ slot_push format parts slot no_pool no_next low fits sound =
 pub next_push : (format : Format) (parts : Parts) (index : ℕ) → get_or (settled_from 0 parts.slots parts.free) index true ≡ false → AreSound format parts → AreSound format (record parts { free = parts.free ++ index ∷ [] })
 next_push format parts index open_slot sound = record {
   decls = sound.decls;
+  groups = sound.groups;
   ticks = sound.ticks;
   slots = sound.slots;
   listed = listed_push parts.slots parts.free index open_slot sound.listed;
@@ -149,6 +160,7 @@ pool_push format parts name fits sound =
     let decl = there (has_name name) (slice_get parts.decls (length parts.pools)) fits in
     record {
       decls = sound.decls;
+      groups = sound.groups;
       ticks = sound.ticks;
       slots = sound.slots;
       listed = sound.listed;
@@ -175,6 +187,7 @@ row_push format parts entity values limits is_row fits sound =
     let named = all_there IsNamedDecl parts.decls k decl.0 sound.decls.named decl.1 in
     record {
       decls = sound.decls;
+      groups = sound.groups;
       ticks = sound.ticks;
       slots = sound.slots;
       listed = sound.listed;

@@ -4,6 +4,9 @@ pub mod CompleteLemmas
 pub mod Faults
 pub mod FieldLemmas
 pub mod FormatLemmas
+pub mod GroupLemmas
+pub mod GroupLineLemmas
+pub mod GroupTextLemmas
 pub mod KeptLemmas
 pub mod LawfulLemmas
 pub mod LawfulLines
@@ -17,6 +20,7 @@ pub mod ListLineLemmas
 pub mod MeaningLemmas
 pub mod NameLemmas
 pub mod NameListLemmas
+pub mod NamedPoolLemmas
 pub mod OneLineLemmas
 pub mod OneScriptLemmas
 pub mod PartLemmas
@@ -27,6 +31,7 @@ pub mod PrintedMeaning
 pub mod PrintedPools
 pub mod PrintedValues
 pub mod PrintingLemmas
+pub mod ReadGroupLemmas
 pub mod ReadingLemmas
 pub mod RowCommandLemmas
 pub mod RowLemmas
@@ -34,12 +39,15 @@ pub mod RowLineLemmas
 pub mod ScriptLemmas
 pub mod ScriptLineLemmas
 pub mod SettledLemmas
+pub mod SortLineLemmas
 pub mod SplitLineLemmas
 pub mod Tags
 pub mod TakingLemmas
 pub mod UniqueLemmas
 pub mod ValueLemmas
 pub mod WordLemmas
+pub mod WorkedGroupScripts
+pub mod WorkedGroupLines
 pub mod WorkedRows
 pub mod WorkedScripts
 pub mod WorkedTexts

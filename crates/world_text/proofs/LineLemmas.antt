@@ -15,9 +15,10 @@ use Rattle.world_text.specs.FieldValues.{FieldValue}
 use Rattle.world_text.specs.LineKinds.{Line}
 use Rattle.world_text.specs.LineKinds as line
 use Rattle.world_text.specs.Formats.{IsFormat}
-use Rattle.world_text.specs.Lines.{IsLine, IsRowLine, line_text, values_text}
+use Rattle.world_text.specs.Lines.{IsLine, IsRowLine, line_text, lists_text, values_text}
 use Rattle.world_text.proofs.FormatLemmas.{format_limits, format_slots}
 use Rattle.world_text.proofs.WordLemmas.{lacks_behind, same_split, name_lacks, kinds_free, same_decl}
+use Rattle.world_text.proofs.GroupTextLemmas.{group_lacks, same_group_text}
 use Rattle.world_text.proofs.ValueLemmas.{values_spaced, values_lack, same_values}
 use Rattle.world_text.proofs.Tags.{tag, same_tag}
 
@@ -37,6 +38,7 @@ free_row format entity values limits is =
 line_lacks_by_limits : (format : Format) (l : Line) → format.version < 2 ^ 64 → format.slot_limit < 2 ^ 32 → HasLimits format.profile → IsLine format l → Lacks 10 (line_text format l)
 line_lacks_by_limits format line.Version wide few limits is = lacks_behind 10 (codes "world ") _ refl (free_number format.version wide)
 line_lacks_by_limits format (line.Component decl) wide few limits is = lacks_behind 10 (codes "component ") _ refl (lacks_append 10 decl.name _ (name_lacks 10 refl decl.name is.name) (kinds_free (kinds_of decl)))
+line_lacks_by_limits format (line.Group named) wide few limits is = lacks_behind 10 (codes "group") (lists_text named) refl (group_lacks named is)
 line_lacks_by_limits format (line.Tick tick) wide few limits is = lacks_behind 10 (codes "tick ") _ refl (free_number tick (omega arith))
 line_lacks_by_limits format (line.Slot slot) wide few limits is = free_slot slot.live slot.version (omega arith)
 line_lacks_by_limits format (line.Next index) wide few limits is = lacks_behind 10 (codes "next ") _ refl (free_number index (omega arith))
@@ -68,6 +70,7 @@ same_row format a b xs ys limits p q e =
 same_of_kind : (format : Format) (a b : Line) → format.slot_limit < 2 ^ 32 → HasLimits format.profile → IsLine format a → IsLine format b → tag a ≡ tag b → line_text format a ≡ line_text format b → a ≡ b
 same_of_kind format line.Version line.Version few limits p q kind e = refl
 same_of_kind format (line.Component a) (line.Component b) few limits p q kind e = ap line.Component (same_decl a b p q (ap (drop 10) e))
+same_of_kind format (line.Group a) (line.Group b) few limits p q kind e = ap line.Group (same_group_text a b p q (ap (drop 5) e))
 same_of_kind format (line.Tick a) (line.Tick b) few limits p q kind e = ap line.Tick (decimal_injective a b (omega arith) (omega arith) (ap (drop 5) e))
 same_of_kind format (line.Slot a) (line.Slot b) few limits p q kind e = ap line.Slot (same_slot a.live b.live a.version b.version (omega arith) (omega arith) e)
 same_of_kind format (line.Next a) (line.Next b) few limits p q kind e = ap line.Next (decimal_injective a b (omega arith) (omega arith) (ap (drop 5) e))

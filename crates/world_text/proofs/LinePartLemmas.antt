@@ -3,11 +3,11 @@ use Rattle.std.proofs.Common.{◌≡◌, ◌≢◌, inl, ℕ, List, ◌∷◌, �
 use Rattle.entity_id.specs.declared.entity.Profile.{Profile}
 use Rattle.entity_id.specs.declared.entity.Entity.{Entity}
 use Rattle.entity_id.specs.Identifiers.{HasLimits}
-use Rattle.entity_id.specs.Texts.{entity_text, IsNumberFirst}
+use Rattle.entity_id.specs.Texts.{entity_text}
 use Rattle.entity_id.proofs.FrontLemmas.{same_entity, same_number}
 use Rattle.world_model.specs.declared.component.Decl.{Decl}
-use Rattle.world_text.specs.Scripts.{name_at}
-use Rattle.world_text.specs.ScriptReading.{IsEntityNext, IsPoolNext, IsEntryNext, IsNumberLast}
+use Rattle.world_text.specs.NameLists.{name_at}
+use Rattle.world_text.specs.ScriptReading.{IsEntityNext, IsPoolNext, IsEntryNext, IsNumberNext}
 use Rattle.world_text.proofs.NameLemmas.{one_pool}
 
 -- ---- identifiers
@@ -58,6 +58,9 @@ no_last_entry profile decls text rest entity pool limits first none other number
 
 -- ---- numbers
 
-pub no_last_number : (text behind rest : List ℕ) (number : ℕ) → text ≡ codes " " ++ behind → IsNumberFirst 4294967295 behind number rest → ((more : List ℕ) → rest ≢ codes "\n" ++ more) → (other : ℕ) (more : List ℕ) → IsNumberLast text other more → ⊥
-no_last_number text behind rest number spaced first none other more h =
-    none more (same_number number other rest (10 ∷ more) (omega (arith, first.within)) (omega (arith, h.within)) first.ended (inl (omega arith)) (sym first.whole ∙ ap (drop 1) (sym spaced ∙ h.whole))).1
+-- a text begins with one number
+pub one_number : (text x y : List ℕ) (m n : ℕ) → IsNumberNext text m x → IsNumberNext text n y → (m ≡ n) × (x ≡ y)
+one_number text x y m n p q = same_number m n x y (omega (arith, p.within)) (omega (arith, q.within)) p.ended q.ended (ap (drop 1) (sym p.whole ∙ q.whole))
+
+pub no_last_number : (text rest : List ℕ) (number : ℕ) → IsNumberNext text number rest → ((more : List ℕ) → rest ≢ codes "\n" ++ more) → (other : ℕ) (more : List ℕ) → IsNumberNext text other (10 ∷ more) → ⊥
+no_last_number text rest number first none other more h = none more (one_number text rest (10 ∷ more) number other first h).1

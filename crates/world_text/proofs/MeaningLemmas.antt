@@ -1,18 +1,19 @@
 -- What one line more changes in what lines stand for.
-use Rattle.std.proofs.Common.{◌≡◌, ℕ, suc, ◌-◌, ◌<◌, ◌≤◌, max, Bool, true, false, List, [], ◌∷◌, ◌++◌, length, get_or, set, refl, sym, ap, ◌∙◌, arith, cond, nat_lt}
+use Rattle.std.proofs.Common.{◌≡◌, ℕ, suc, ◌-◌, ◌<◌, ◌≤◌, max, Bool, true, false, List, [], ◌∷◌, ◌++◌, length, get_or, set, map, refl, sym, ap, ◌∙◌, arith, cond, nat_lt}
 use Rattle.std.specs.List.{flat_map}
-use Rattle.std.proofs.lemmas.List.{append-nil}
+use Rattle.std.proofs.lemmas.List.{append-nil, map-append}
 use Rattle.std.proofs.lemmas.Grind.{flat_map-append}
 use Rattle.std.proofs.lemmas.Bool.Decides.{nat_tests}
 use Rattle.entity_id.specs.declared.entity.Profile.{Profile}
 use Rattle.entity_id.specs.declared.entity.Entity.{Entity}
+use Rattle.world_model.specs.declared.component.Decl.{Decl}
 use Rattle.world_text.specs.declared.section.Section.{Section}
 use Rattle.world_text.specs.declared.section.Section.TheVariants as section
 use Rattle.world_text.specs.FieldValues.{FieldValue}
-use Rattle.world_text.specs.LineKinds.{Line}
+use Rattle.world_text.specs.LineKinds.{Line, NamedGroup}
 use Rattle.world_text.specs.LineKinds as line
 use Rattle.world_text.specs.Sections.{order, later}
-use Rattle.world_text.specs.Meaning.{tick_in, next_in, row_of, rows_in, pools_in}
+use Rattle.world_text.specs.Meaning.{decl_in, group_in, group_of, groups_in, tick_in, next_in, row_of, rows_in, pools_in}
 use Rattle.world_text.specs.Fitting.{section_of, last_section}
 
 -- ---- parts that are lists
@@ -26,6 +27,26 @@ gains f before l xs e = ap (λ x. x ++ f l) e ∙ sym (flat_map_push f before l)
 
 pub keeps : {X : Type 0} (f : Line → List X) (before : List Line) (l : Line) (xs : List X) → f l ≡ [] → xs ≡ flat_map f before → xs ≡ flat_map f (before ++ l ∷ [])
 keeps f before l xs none e = e ∙ sym (flat_map_push f before l ∙ ap (λ x. flat_map f before ++ x) none ∙ append-nil (flat_map f before))
+
+-- ---- groups
+
+-- a line that declares neither a component nor a group leaves the groups
+pub groups_keep : (before : List Line) (l : Line) → decl_in l ≡ [] → group_in l ≡ [] → groups_in before ≡ groups_in (before ++ l ∷ [])
+groups_keep before l no_decl no_group i = map (group_of (keeps decl_in before l _ no_decl refl i)) (keeps group_in before l _ no_group refl i)
+
+-- a group line adds its group
+pub groups_gain : (before : List Line) (named : NamedGroup) → groups_in before ++ group_of (flat_map decl_in before) named ∷ [] ≡ groups_in (before ++ line.Group named ∷ [])
+groups_gain before named =
+    let l : Line = line.Group named in
+    sym (map-append (group_of (flat_map decl_in before)) (flat_map group_in before) (named ∷ []))
+    ∙ (λ i. map (group_of (keeps decl_in before l _ refl refl i)) (gains group_in before l _ refl i))
+
+-- a component line leaves the groups where no group line stands before it
+pub groups_before : (before : List Line) (decl : Decl) → flat_map group_in before ≡ [] → groups_in before ≡ groups_in (before ++ line.Component decl ∷ [])
+groups_before before decl none =
+    let l : Line = line.Component decl in
+    ap (map (group_of (flat_map decl_in before))) none
+    ∙ sym (ap (map (group_of (flat_map decl_in (before ++ l ∷ [])))) (sym (keeps group_in before l _ refl refl) ∙ none))
 
 -- ---- the part of the document that lines have reached
 
@@ -66,30 +87,40 @@ none_before f place none (l ∷ before) early =
 
 -- ---- what stands before a part
 
-nothing_early_free : (l : Line) → order (section_of l) < 5 → next_in l ≡ []
+nothing_early_free : (l : Line) → order (section_of l) < 6 → next_in l ≡ []
 nothing_early_free (line.Next index) early = absurd (omega arith)
 nothing_early_free line.End early = refl
 nothing_early_free _ early = refl
 
-nothing_early_tick : (l : Line) → order (section_of l) < 3 → tick_in l ≡ []
+nothing_early_tick : (l : Line) → order (section_of l) < 4 → tick_in l ≡ []
 nothing_early_tick (line.Tick tick) early = absurd (omega arith)
 nothing_early_tick line.End early = refl
 nothing_early_tick _ early = refl
 
+nothing_early_group : (l : Line) → order (section_of l) < 3 → group_in l ≡ []
+nothing_early_group (line.Group named) early = absurd (omega arith)
+nothing_early_group line.End early = refl
+nothing_early_group _ early = refl
+
+-- before the groups no group line stands
+pub no_group_yet : (before : List Line) → order (last_section before) < 3 → flat_map group_in before ≡ []
+no_group_yet before early = none_before group_in 3 nothing_early_group before early
+
 -- before the free list no next line stands
-pub no_next_yet : (before : List Line) → order (last_section before) < 5 → flat_map next_in before ≡ []
-no_next_yet before early = none_before next_in 5 nothing_early_free before early
+pub no_next_yet : (before : List Line) → order (last_section before) < 6 → flat_map next_in before ≡ []
+no_next_yet before early = none_before next_in 6 nothing_early_free before early
 
 -- before the tick line no tick line stands
-pub no_tick_yet : (before : List Line) → order (last_section before) < 3 → flat_map tick_in before ≡ []
-no_tick_yet before early = none_before tick_in 3 nothing_early_tick before early
+pub no_tick_yet : (before : List Line) → order (last_section before) < 4 → flat_map tick_in before ≡ []
+no_tick_yet before early = none_before tick_in 4 nothing_early_tick before early
 
 -- before the pools no pool line stands
-pub no_pool_yet : (profile : Profile) (before : List Line) → order (last_section before) < 6 → pools_in profile before ≡ []
+pub no_pool_yet : (profile : Profile) (before : List Line) → order (last_section before) < 7 → pools_in profile before ≡ []
 no_pool_yet profile [] early = refl
 no_pool_yet profile (line.Pool name ∷ before) early = absurd (omega (arith, order_later section.Pools (last_section before)))
 no_pool_yet profile (line.Version ∷ before) early = no_pool_yet profile before (omega (arith, order_later section.Version (last_section before)))
 no_pool_yet profile (line.Component decl ∷ before) early = no_pool_yet profile before (omega (arith, order_later section.Components (last_section before)))
+no_pool_yet profile (line.Group named ∷ before) early = no_pool_yet profile before (omega (arith, order_later section.Groups (last_section before)))
 no_pool_yet profile (line.Tick tick ∷ before) early = no_pool_yet profile before (omega (arith, order_later section.Tick (last_section before)))
 no_pool_yet profile (line.Slot slot ∷ before) early = no_pool_yet profile before (omega (arith, order_later section.Slots (last_section before)))
 no_pool_yet profile (line.Next index ∷ before) early = no_pool_yet profile before (omega (arith, order_later section.FreeList (last_section before)))
@@ -136,6 +167,7 @@ rows_in-row profile (line.Pool name ∷ lines) entity values = refl
 rows_in-row profile (line.Row other row ∷ lines) entity values = ap (λ rows. (other, row_of profile row) ∷ rows) (rows_in-row profile lines entity values) ∙ gained_rows_cons (pools_in profile lines) _ _ _
 rows_in-row profile (line.Version ∷ lines) entity values = rows_in-row profile lines entity values
 rows_in-row profile (line.Component decl ∷ lines) entity values = rows_in-row profile lines entity values
+rows_in-row profile (line.Group named ∷ lines) entity values = rows_in-row profile lines entity values
 rows_in-row profile (line.Tick tick ∷ lines) entity values = rows_in-row profile lines entity values
 rows_in-row profile (line.Slot slot ∷ lines) entity values = rows_in-row profile lines entity values
 rows_in-row profile (line.Next index ∷ lines) entity values = rows_in-row profile lines entity values
@@ -147,6 +179,7 @@ pools_in-row-last profile (line.Pool name ∷ lines) entity values = (λ i. rows
 pools_in-row-last profile (line.Row other row ∷ lines) entity values = pools_in-row-last profile lines entity values
 pools_in-row-last profile (line.Version ∷ lines) entity values = pools_in-row-last profile lines entity values
 pools_in-row-last profile (line.Component decl ∷ lines) entity values = pools_in-row-last profile lines entity values
+pools_in-row-last profile (line.Group named ∷ lines) entity values = pools_in-row-last profile lines entity values
 pools_in-row-last profile (line.Tick tick ∷ lines) entity values = pools_in-row-last profile lines entity values
 pools_in-row-last profile (line.Slot slot ∷ lines) entity values = pools_in-row-last profile lines entity values
 pools_in-row-last profile (line.Next index ∷ lines) entity values = pools_in-row-last profile lines entity values
@@ -162,6 +195,7 @@ rows_in-pool profile (line.Pool other ∷ lines) name = refl
 rows_in-pool profile (line.Row other row ∷ lines) name = ap (λ rows. (other, row_of profile row) ∷ rows) (rows_in-pool profile lines name)
 rows_in-pool profile (line.Version ∷ lines) name = rows_in-pool profile lines name
 rows_in-pool profile (line.Component decl ∷ lines) name = rows_in-pool profile lines name
+rows_in-pool profile (line.Group named ∷ lines) name = rows_in-pool profile lines name
 rows_in-pool profile (line.Tick tick ∷ lines) name = rows_in-pool profile lines name
 rows_in-pool profile (line.Slot slot ∷ lines) name = rows_in-pool profile lines name
 rows_in-pool profile (line.Next index ∷ lines) name = rows_in-pool profile lines name
@@ -174,6 +208,7 @@ pools_in-pool profile (line.Pool other ∷ lines) name = λ i. rows_in-pool prof
 pools_in-pool profile (line.Row other row ∷ lines) name = pools_in-pool profile lines name
 pools_in-pool profile (line.Version ∷ lines) name = pools_in-pool profile lines name
 pools_in-pool profile (line.Component decl ∷ lines) name = pools_in-pool profile lines name
+pools_in-pool profile (line.Group named ∷ lines) name = pools_in-pool profile lines name
 pools_in-pool profile (line.Tick tick ∷ lines) name = pools_in-pool profile lines name
 pools_in-pool profile (line.Slot slot ∷ lines) name = pools_in-pool profile lines name
 pools_in-pool profile (line.Next index ∷ lines) name = pools_in-pool profile lines name
@@ -196,6 +231,7 @@ rows_in-other profile (line.Pool other ∷ lines) l beside = refl
 rows_in-other profile (line.Row other row ∷ lines) l beside = ap (λ rows. (other, row_of profile row) ∷ rows) (rows_in-other profile lines l beside)
 rows_in-other profile (line.Version ∷ lines) l beside = rows_in-other profile lines l beside
 rows_in-other profile (line.Component decl ∷ lines) l beside = rows_in-other profile lines l beside
+rows_in-other profile (line.Group named ∷ lines) l beside = rows_in-other profile lines l beside
 rows_in-other profile (line.Tick tick ∷ lines) l beside = rows_in-other profile lines l beside
 rows_in-other profile (line.Slot slot ∷ lines) l beside = rows_in-other profile lines l beside
 rows_in-other profile (line.Next index ∷ lines) l beside = rows_in-other profile lines l beside
@@ -208,6 +244,7 @@ pools_in-other profile (line.Pool other ∷ lines) l beside = λ i. rows_in-othe
 pools_in-other profile (line.Row other row ∷ lines) l beside = pools_in-other profile lines l beside
 pools_in-other profile (line.Version ∷ lines) l beside = pools_in-other profile lines l beside
 pools_in-other profile (line.Component decl ∷ lines) l beside = pools_in-other profile lines l beside
+pools_in-other profile (line.Group named ∷ lines) l beside = pools_in-other profile lines l beside
 pools_in-other profile (line.Tick tick ∷ lines) l beside = pools_in-other profile lines l beside
 pools_in-other profile (line.Slot slot ∷ lines) l beside = pools_in-other profile lines l beside
 pools_in-other profile (line.Next index ∷ lines) l beside = pools_in-other profile lines l beside

@@ -1,10 +1,11 @@
 -- Names at the front of a text.
-use Rattle.std.proofs.Common.{◌≡◌, inl, inr, ℕ, zero, suc, ◌+◌, ◌<◌, ◌≤◌, true, false, cond, eqb, List, [], ◌∷◌, ◌++◌, take, drop, length, length-append, Some, None, refl, sym, ap, ap₂, subst, ◌∙◌, arith}
+use Rattle.std.proofs.Common.{◌≡◌, Bool, not, inl, inr, ℕ, zero, suc, ◌+◌, ◌<◌, ◌≤◌, true, false, cond, eqb, List, [], ◌∷◌, ◌++◌, take, drop, length, length-append, Some, None, refl, sym, ap, ap₂, subst, ◌∙◌, arith}
 use Rattle.std.specs.List.{AllByRecursion, list_all, list_any, position_from}
 use Rattle.std.specs.Str.{bytes_eq}
-use Rattle.std.proofs.lemmas.Bool.{and_parts, cases_Bool, or_cases, eqb-true, or_parts, not-true, both_ways}
+use Rattle.std.proofs.lemmas.Bool.{and_from, or_from, not_from_false, and_parts, cases_Bool, or_cases, eqb-true, or_parts, not-true, both_ways}
 use Rattle.std.proofs.lemmas.Slice.Eq.{bytes_eq-Decides}
 use Rattle.std.proofs.lemmas.Option.{none-some, same_Some}
+use Rattle.std.proofs.lemmas.List.Folds.{list_any-append}
 use Rattle.std.proofs.lemmas.List.{append-nil, take_all, drop_all}
 use Rattle.std.proofs.Math.Seq.{take-append_seam, drop-append_seam}
 use Rattle.world_model.specs.declared.component.Decl.{Decl}
@@ -13,7 +14,7 @@ use Rattle.world_text.specs.Lines.{IsNamedDecl}
 use Rattle.world_model.specs.Components.{has_name}
 use Rattle.world_model.specs.Tokens.{component_named, IsNameToken}
 use Rattle.world_text.specs.Documents.{AreNamedDecls, are_named_apart}
-use Rattle.world_text.specs.Scripts.{name_at, IsCalled}
+use Rattle.world_text.specs.NameLists.{name_at, IsCalled}
 use Rattle.world_text.specs.ScriptReading.{ends_name, EndsName, IsNameSplit, IsPoolNext}
 
 -- ---- a text has one cut at the end of its name
@@ -142,7 +143,7 @@ differs name (decl ∷ decls) zero none within e = both_ways (bytes_eq name decl
 differs name (decl ∷ decls) (suc pool) none within e = differs name decls pool (or_parts (bytes_eq name decl.name) _ none).1 (omega arith) e
 
 -- where names stand apart, a name is at one place
-one_place : (decls : List Decl) (a b : ℕ) → are_named_apart decls ≡ true → a < length decls → b < length decls → name_at decls a ≡ name_at decls b → a ≡ b
+pub one_place : (decls : List Decl) (a b : ℕ) → are_named_apart decls ≡ true → a < length decls → b < length decls → name_at decls a ≡ name_at decls b → a ≡ b
 one_place [] a b apart la lb e = absurd (omega arith)
 one_place (decl ∷ decls) zero zero apart la lb e = refl
 one_place (decl ∷ decls) zero (suc b) apart la lb e = absurd (differs decl.name decls b (not-true _ (and_parts _ (are_named_apart decls) apart).0) (omega arith) e)
@@ -235,3 +236,15 @@ pub no_pool_first : (decls : List Decl) (text behind name rest : List ℕ) → t
 no_pool_first decls text behind name rest spaced split none pool more p =
     let same = same_name_split name (name_at decls pool) rest more split.free (called_free decls pool p.called) split.ended p.ended (sym split.whole ∙ ap (drop 1) (sym spaced ∙ p.whole)) in
     none pool (subst (λ (n : List ℕ). IsNameToken decls n pool) (sym same.0) p.called.named)
+
+-- a component of a new name stands apart from those before it
+pub apart_push : (decls : List Decl) (decl : Decl) → are_named_apart decls ≡ true → list_any (has_name decl.name) decls ≡ false → are_named_apart (decls ++ decl ∷ []) ≡ true
+apart_push [] decl apart new = refl
+apart_push (d ∷ decls) decl apart new =
+    let among : Bool = list_any (λ other. has_name other.name d) decls in
+    let parts = and_parts (not among) (are_named_apart decls) apart in
+    let others = or_parts (has_name decl.name d) (list_any (has_name decl.name) decls) new in
+    let none : list_any (λ other. has_name other.name d) (decls ++ decl ∷ []) ≡ false =
+    list_any-append (λ other. has_name other.name d) decls (decl ∷ [])
+    ∙ or_from _ _ (not-true among parts.0) (or_from _ _ others.0 refl) in
+    and_from _ _ (not_from_false _ none) (apart_push decls decl parts.1 others.1)

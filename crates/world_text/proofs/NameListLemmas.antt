@@ -1,15 +1,16 @@
 -- Names of components one after another at the front of a text.
-use Rattle.std.proofs.Common.{◌≡◌, ◌≢◌, ℕ, ◌+◌, ◌<◌, ◌≤◌, leb, Bool, true, false, cond, ◌||◌, inl, inr, List, [], ◌∷◌, ◌++◌, All, drop, get_or, length, length-append, append_assoc, count_by, refl, sym, ap, ap₂, subst, ◌∙◌, arith, codes}
+use Rattle.std.proofs.Common.{◌≡◌, ◌≢◌, ℕ, ◌+◌, ◌<◌, ◌≤◌, Bool, true, false, cond, ◌||◌, inl, inr, List, [], ◌∷◌, ◌++◌, All, drop, get_or, length, length-append, append_assoc, count_by, refl, sym, ap, ap₂, subst, ◌∙◌, arith, codes}
 use Rattle.std.specs.List.{list_any}
 use Rattle.std.specs.Prelude.{◌==◌}
-use Rattle.std.proofs.lemmas.Bool.{cases_Bool, or_cases, or_parts, false≢true, eqb-true, eq-eqb, leb-true, leb-false}
-use Rattle.std.proofs.lemmas.List.{append-nil}
+use Rattle.std.proofs.lemmas.Bool.{cases_Bool, or_cases, or_parts, false≢true, eqb-true, eq-eqb}
+use Rattle.std.proofs.lemmas.List.{append-nil, append_cancel_left}
 use Rattle.std.proofs.lemmas.List.Elements.{All-nil, All-cons, All-head, All-tail}
 use Rattle.std.proofs.lemmas.List.Sums.{sum_by-append, sum_by-cons}
 use Rattle.world_model.specs.declared.component.Decl.{Decl}
-use Rattle.world_text.specs.Scripts.{AreNamedOnce, IsCalled, name_at, names_text}
-use Rattle.world_text.specs.ScriptReading.{EndsName, ArePoolsNext, AreNamesNext, AreNamesLast, IsPoolNext, IsWithoutLast, is_over}
-use Rattle.world_text.proofs.NameLemmas.{one_pool}
+use Rattle.world_model.specs.Names.{is_name}
+use Rattle.world_text.specs.NameLists.{AreNamedOnce, IsCalled, name_at, names_text, part_text}
+use Rattle.world_text.specs.ScriptReading.{EndsName, ArePoolsNext, AreNamesNext, AreSomeNext, IsPartNext, IsPoolNext, is_named}
+use Rattle.world_text.proofs.NameLemmas.{IsFree, name_free, one_pool, same_name_split}
 
 -- ---- one after another
 
@@ -53,7 +54,7 @@ times-cons pool x pools = sum_by-cons (λ other. one_if (other == pool)) x pools
 pub times-append : (pool : ℕ) (xs ys : List ℕ) → times pool (xs ++ ys) ≡ times pool xs + times pool ys
 times-append pool xs ys = sum_by-append (λ other. one_if (other == pool)) xs ys
 
-named_counted : (pool : ℕ) (pools : List ℕ) → list_any (λ other. other == pool) pools ≡ true → 1 ≤ times pool pools
+pub named_counted : (pool : ℕ) (pools : List ℕ) → list_any (λ other. other == pool) pools ≡ true → 1 ≤ times pool pools
 named_counted pool [] h = absurd (false≢true h)
 named_counted pool (x ∷ pools) h =
     let whole : times pool (x ∷ pools) ≡ one_if (x == pool) + times pool pools = times-cons pool x pools in
@@ -65,7 +66,7 @@ named_counted pool (x ∷ pools) h =
           omega arith
     ]
 
-unnamed_counted : (pool : ℕ) (pools : List ℕ) → list_any (λ other. other == pool) pools ≡ false → times pool pools ≡ 0
+pub unnamed_counted : (pool : ℕ) (pools : List ℕ) → list_any (λ other. other == pool) pools ≡ false → times pool pools ≡ 0
 unnamed_counted pool [] h = refl
 unnamed_counted pool (x ∷ pools) h =
     let parts = or_parts (x == pool) (list_any (λ other. other == pool) pools) h in
@@ -78,39 +79,32 @@ times_three pool next others pools left =
     times-append pool others (pools ++ next ∷ left)
     ∙ ap (λ n. times pool others + n) (times-append pool pools (next ∷ left) ∙ ap (λ n. times pool pools + n) (times-cons pool next left))
 
--- a component that is one too many, or was named, is named by no lawful list
-is_too_many : (others pools left : List ℕ) (pool : ℕ) → is_over others pools pool ≡ true → length others + length (pools ++ pool ∷ left) ≤ 16 → AreNamedOnce (others ++ (pools ++ pool ∷ left)) → ⊥
-is_too_many others pools left pool over few once =
+-- a component that was named is named again by no lawful list
+is_repeated : (others pools left : List ℕ) (pool : ℕ) → is_named others pools pool ≡ true → AreNamedOnce (others ++ (pools ++ pool ∷ left)) → ⊥
+is_repeated others pools left pool named once =
     let total : times pool (others ++ (pools ++ pool ∷ left)) ≡ times pool others + (times pool pools + (one_if (pool == pool) + times pool left)) = times_three pool pool others pools left in
     let here : one_if (pool == pool) ≡ 1 = ap one_if (eq-eqb pool pool refl) in
     let most : times pool (others ++ (pools ++ pool ∷ left)) ≤ 1 = once pool in
-    elim (or_cases (leb 16 (length others + length pools) || list_any (λ other. other == pool) others) (list_any (λ other. other == pool) pools) over) [
+    elim (or_cases (list_any (λ other. other == pool) others) (list_any (λ other. other == pool) pools) named) [
+      | inl twice ↦ (let more : 1 ≤ times pool others = named_counted pool others twice in omega arith)
       | inr twice ↦ (let more : 1 ≤ times pool pools = named_counted pool pools twice in omega arith)
-      | inl earlier ↦ elim (or_cases (leb 16 (length others + length pools)) (list_any (λ other. other == pool) others) earlier) [
-        | inr twice ↦ (let more : 1 ≤ times pool others = named_counted pool others twice in omega arith)
-        | inl full ↦ (let many : 16 ≤ length others + length pools = leb-true 16 (length others + length pools) full in omega (arith, length-append pools (pool ∷ left)))
-      ]
     ]
 
 -- names that were read from the front of a text
 pub record AreNamesTaken (decls : List Decl) (others : List ℕ) (text : List ℕ) (pools rest : List ℕ) : Type 0 where
   pub next : ArePoolsNext decls text pools rest
   pub once : AreNamedOnce (others ++ pools)
-  pub few : length others + length pools ≤ 16
 
 -- before the first
-pub none_taken : (decls : List Decl) (others text : List ℕ) → AreNamedOnce others → length others ≤ 16 → AreNamesTaken decls others text [] text
-none_taken decls others text once few = record { next = refl; once = subst AreNamedOnce (sym (append-nil others)) once; few = omega arith }
+pub none_taken : (decls : List Decl) (others text : List ℕ) → AreNamedOnce others → AreNamesTaken decls others text [] text
+none_taken decls others text once = record { next = refl; once = subst AreNamedOnce (sym (append-nil others)) once }
 
 -- one more
-pub names_push : (decls : List Decl) (others text pools rest : List ℕ) (pool : ℕ) (behind : List ℕ) → AreNamesTaken decls others text pools rest → is_over others pools pool ≡ false → IsPoolNext decls rest pool behind → AreNamesTaken decls others text (pools ++ pool ∷ []) behind
-names_push decls others text pools rest pool behind h within next =
-    let parts = or_parts (leb 16 (length others + length pools) || list_any (λ other. other == pool) others) (list_any (λ other. other == pool) pools) within in
-    let first = or_parts (leb 16 (length others + length pools)) (list_any (λ other. other == pool) others) parts.0 in
-    let room = leb-false 16 (length others + length pools) first.0 in
+pub names_push : (decls : List Decl) (others text pools rest : List ℕ) (pool : ℕ) (behind : List ℕ) → AreNamesTaken decls others text pools rest → is_named others pools pool ≡ false → IsPoolNext decls rest pool behind → AreNamesTaken decls others text (pools ++ pool ∷ []) behind
+names_push decls others text pools rest pool behind h unnamed next =
+    let parts = or_parts (list_any (λ other. other == pool) others) (list_any (λ other. other == pool) pools) unnamed in
     record {
       next = pools_push decls text pools rest pool behind h.next next;
-      few = omega (arith, room, length-append pools (pool ∷ []));
       once = λ k.
           let total : times k (others ++ (pools ++ pool ∷ [])) ≡ times k others + (times k pools + (one_if (pool == k) + 0)) = times_three k pool others pools [] in
           let split : times k (others ++ pools) ≡ times k others + times k pools = times-append k others pools in
@@ -120,37 +114,35 @@ names_push decls others text pools rest pool behind h within next =
             | inl same ↦
                 let is : pool ≡ k = eqb-true pool k same in
                 let here : one_if (pool == k) ≡ 1 = ap one_if same in
-                let none_before : times k others ≡ 0 = subst (λ (q : ℕ). times q others ≡ 0) is (unnamed_counted pool others first.1) in
+                let none_before : times k others ≡ 0 = subst (λ (q : ℕ). times q others ≡ 0) is (unnamed_counted pool others parts.0) in
                 let none_here : times k pools ≡ 0 = subst (λ (q : ℕ). times q pools ≡ 0) is (unnamed_counted pool pools parts.1) in
                 omega arith
           ];
     }
 
--- one too many, or named twice: no list of names
-pub no_names : (decls : List Decl) (others text pools rest : List ℕ) (pool : ℕ) (behind : List ℕ) → AreNamesTaken decls others text pools rest → IsPoolNext decls rest pool behind → is_over others pools pool ≡ true → (all more : List ℕ) → AreNamesNext decls others text all more → ⊥
-no_names decls others text pools rest pool behind h next over all more q =
+-- named twice: no list of names
+pub no_names : (decls : List Decl) (others text pools rest : List ℕ) (pool : ℕ) (behind : List ℕ) → AreNamesTaken decls others text pools rest → IsPoolNext decls rest pool behind → is_named others pools pool ≡ true → (all more : List ℕ) → AreNamesNext decls others text all more → ⊥
+no_names decls others text pools rest pool behind h next named all more q =
     let g = go_on decls text pools rest all more h.next q.next q.last in
     elim g.0 as (λ left. all ≡ pools ++ left → ArePoolsNext decls rest left more → ⊥) [
       | [] ↦ λ e none. q.last pool behind (subst (λ (t : List ℕ). IsPoolNext decls t pool behind) none next)
       | (p ∷ left) ↦ λ e of.
           let same = one_pool decls rest behind of.0 pool p next of.1 in
           let whole : all ≡ pools ++ pool ∷ left = e ∙ ap (λ (k : ℕ). pools ++ k ∷ left) (sym same.0) in
-          is_too_many others pools left pool over (subst (λ (l : List ℕ). length others + length l ≤ 16) whole q.few) (subst (λ (l : List ℕ). AreNamedOnce (others ++ l)) whole q.once)
+          is_repeated others pools left pool named (subst (λ (l : List ℕ). AreNamedOnce (others ++ l)) whole q.once)
     ] g.1 g.2
 
 -- behind a name fewer bytes are left
 pub shorter : (decls : List Decl) (text : List ℕ) (pool : ℕ) (rest : List ℕ) → IsPoolNext decls text pool rest → length rest < length text
 shorter decls text pool rest next = omega (arith, ap length next.whole, length-append (name_at decls pool) rest)
 
--- ---- up to the end of a line
-
--- names, but not up to the end of a line
-pub no_line_end : (decls : List Decl) (others text pools rest : List ℕ) → AreNamesNext decls others text pools rest → ((more : List ℕ) → rest ≢ codes "\n" ++ more) → (all more : List ℕ) → AreNamesLast decls others text all more → ⊥
-no_line_end decls others text pools rest first none all more q = none more (one_names decls others text pools rest all (10 ∷ more) first q.names).1
+-- a text begins with one list of one name or more
+pub one_some : (decls : List Decl) (others text a x b y : List ℕ) → AreSomeNext decls others text a x → AreSomeNext decls others text b y → (a ≡ b) × (x ≡ y)
+one_some decls others text a x b y p q = one_names decls others text a x b y p.names q.names
 
 -- no name at all
-pub no_first_name : (decls : List Decl) (others text pools rest : List ℕ) → AreNamesNext decls others text pools rest → length pools ≡ 0 → (all more : List ℕ) → AreNamesNext decls others text all more → 0 < length all → ⊥
-no_first_name decls others text pools rest first empty all more q some = omega (arith, ap length (one_names decls others text pools rest all more first q).0)
+pub no_first_name : (decls : List Decl) (others text pools rest : List ℕ) → AreNamesNext decls others text pools rest → length pools ≡ 0 → (all more : List ℕ) → AreSomeNext decls others text all more → ⊥
+no_first_name decls others text pools rest first empty all more q = omega (arith, q.some, ap length (one_names decls others text pools rest all more first q.names).0)
 
 -- ---- names as text
 
@@ -186,36 +178,71 @@ pools_called decls text (pool ∷ pools) rest h = All-cons (IsCalled decls) pool
 pub end_is_no_name : (decls : List Decl) (rest : List ℕ) (pool : ℕ) (more : List ℕ) → IsPoolNext decls (10 ∷ rest) pool more → ⊥
 end_is_no_name decls rest pool more h = omega (arith, ap (λ (t : List ℕ). get_or t 0 0) h.whole)
 
--- ---- what a view leaves out
+-- ---- parts that may be left out
 
-pub leaves_nothing : (decls : List Decl) (others text pools rest : List ℕ) → AreNamedOnce others → length others ≤ 16 → text ≡ 10 ∷ rest → pools ≡ [] → IsWithoutLast decls others text pools rest
-leaves_nothing decls others text pools rest once few spelled none =
-    subst (λ (ps : List ℕ). IsWithoutLast decls others text ps rest) (sym none)
-    (record {
-      called = All-nil (IsCalled decls);
-      once = subst AreNamedOnce (sym (append-nil others)) once;
-      few = omega arith;
-      whole = spelled;
-    })
+-- names behind the word
+pub part_named : (decls : List Decl) (others word text behind pools rest : List ℕ) → text ≡ word ++ behind → AreSomeNext decls others behind pools rest → IsPartNext decls others word text pools rest
+part_named decls others word text behind [] rest spelled h = absurd (omega (arith, h.some))
+part_named decls others word text behind (pool ∷ pools) rest spelled h = (behind, spelled, h.names)
 
-pub leaves_names : (decls : List Decl) (others text behind pools rest : List ℕ) → text ≡ codes " not" ++ behind → AreNamesLast decls others behind pools rest → IsWithoutLast decls others text pools rest
-leaves_names decls others text behind [] rest spelled last = absurd (omega (arith, last.some))
-leaves_names decls others text behind (pool ∷ pools) rest spelled last = record {
-  called = pools_called decls behind (pool ∷ pools) (10 ∷ rest) last.names.next;
-  once = last.names.once;
-  few = last.names.few;
-  whole = spelled ∙ ap (λ (t : List ℕ). codes " not" ++ t) (pools_spelled decls behind (pool ∷ pools) (10 ∷ rest) last.names.next);
-}
-
-pub no_left_out : (decls : List Decl) (others text behind : List ℕ) → ((more : List ℕ) → text ≢ codes "\n" ++ more) → text ≡ codes " not" ++ behind → ((pools rest : List ℕ) → AreNamesLast decls others behind pools rest → ⊥) → (pools rest : List ℕ) → IsWithoutLast decls others text pools rest → ⊥
-no_left_out decls others text behind no_end spelled none [] rest h = no_end rest h.whole
-no_left_out decls others text behind no_end spelled none (pool ∷ pools) rest h =
+pub no_part_named : (decls : List Decl) (others word text behind : List ℕ) → text ≡ word ++ behind → ((pools rest : List ℕ) → AreSomeNext decls others behind pools rest → ⊥) → (pools rest : List ℕ) → IsPartNext decls others word text pools rest → ⊥
+no_part_named decls others word text behind spelled none [] rest h = h.1 behind spelled
+no_part_named decls others word text behind spelled none (pool ∷ pools) rest h =
     none (pool ∷ pools) rest (record {
-      names = record {
-        next = pools_of_text decls behind (pool ∷ pools) (10 ∷ rest) h.called refl (ap (drop 4) (sym spelled ∙ h.whole));
-        once = h.once;
-        few = h.few;
-        last = end_is_no_name decls rest;
-      };
+      names = subst (λ (t : List ℕ). AreNamesNext decls others t (pool ∷ pools) rest) (append_cancel_left word h.0 behind (sym h.1 ∙ spelled)) h.2;
       some = omega arith;
     })
+
+-- a text begins with one part
+pub one_part : (decls : List Decl) (others word text a x b y : List ℕ) → IsPartNext decls others word text a x → IsPartNext decls others word text b y → (a ≡ b) × (x ≡ y)
+one_part decls others word text [] x [] y p q = (refl, sym p.0 ∙ q.0)
+one_part decls others word text [] x (k ∷ b) y p q = absurd (p.1 q.0 q.1)
+one_part decls others word text (j ∷ a) x [] y p q = absurd (q.1 p.0 p.1)
+one_part decls others word text (j ∷ a) x (k ∷ b) y p q =
+    one_names decls others p.0 (j ∷ a) x (k ∷ b) y p.2 (subst (λ (t : List ℕ). AreNamesNext decls others t (k ∷ b) y) (append_cancel_left word q.0 p.0 (sym q.1 ∙ p.1)) q.2)
+
+pub part_spelled : (decls : List Decl) (others word text pools rest : List ℕ) → IsPartNext decls others word text pools rest → text ≡ part_text word decls pools ++ rest
+part_spelled decls others word text [] rest h = h.0
+part_spelled decls others word text (pool ∷ pools) rest h =
+    h.1 ∙ ap (λ (t : List ℕ). word ++ t) (pools_spelled decls h.0 (pool ∷ pools) rest h.2.next) ∙ sym (append_assoc word (names_text decls (pool ∷ pools)) rest)
+
+pub part_called : (decls : List Decl) (others word text pools rest : List ℕ) → IsPartNext decls others word text pools rest → All (IsCalled decls) pools
+part_called decls others word text [] rest h = All-nil (IsCalled decls)
+part_called decls others word text (pool ∷ pools) rest h = pools_called decls h.0 (pool ∷ pools) rest h.2.next
+
+pub part_once : (decls : List Decl) (others word text pools rest : List ℕ) → AreNamedOnce others → IsPartNext decls others word text pools rest → AreNamedOnce (others ++ pools)
+part_once decls others word text [] rest once h = subst AreNamedOnce (sym (append-nil others)) once
+part_once decls others word text (pool ∷ pools) rest once h = h.2.once
+
+-- a part that a text spells, where neither its word nor a name follows
+pub part_of_text : (decls : List Decl) (others word text pools rest : List ℕ) → All (IsCalled decls) pools → AreNamedOnce (others ++ pools) → EndsName rest → ((more : List ℕ) → rest ≢ word ++ more) → ((pool : ℕ) (more : List ℕ) → IsPoolNext decls rest pool more → ⊥) → text ≡ part_text word decls pools ++ rest
+    → IsPartNext decls others word text pools rest
+part_of_text decls others word text [] rest called once ended no_word last e = (e, λ more w. no_word more (sym e ∙ w))
+part_of_text decls others word text (pool ∷ pools) rest called once ended no_word last e = (
+  names_text decls (pool ∷ pools) ++ rest,
+  e ∙ append_assoc word (names_text decls (pool ∷ pools)) rest,
+  record { next = pools_of_text decls (names_text decls (pool ∷ pools) ++ rest) (pool ∷ pools) rest called ended refl; once = once; last = last },
+)
+
+-- ---- what stands behind names and parts in a line
+
+pub end_is_no_not : (rest more : List ℕ) → 10 ∷ rest ≢ codes " not" ++ more
+end_is_no_not rest more e = omega (arith, ap (λ (t : List ℕ). get_or t 0 0) e)
+
+-- a word behind a space that begins no name
+not_is_no_name : (decls : List Decl) (word t : List ℕ) → IsFree word → is_name word ≡ false → EndsName t → (pool : ℕ) (more : List ℕ) → IsPoolNext decls (32 ∷ (word ++ t)) pool more → ⊥
+not_is_no_name decls word t free no_name ended pool more h =
+    let name = h.called.named.form in
+    let same = same_name_split word (name_at decls pool) t more free (name_free _ name) ended h.ended (ap (drop 1) h.whole) in
+    false≢true (sym no_name ∙ subst (λ (n : List ℕ). is_name n ≡ true) (sym same.0) name)
+
+-- what stands behind names does not go on with a name: a part of this word, or what stands behind it
+pub part_ends : (decls : List Decl) (word pools rest : List ℕ) → EndsName rest → EndsName (part_text (32 ∷ word) decls pools ++ rest)
+part_ends decls word [] rest ended = ended
+part_ends decls word (pool ∷ pools) rest ended = refl
+
+pub part_is_no_name : (decls : List Decl) (word pools rest : List ℕ) → IsFree word → is_name word ≡ false → ((pool : ℕ) (more : List ℕ) → IsPoolNext decls rest pool more → ⊥) → (pool : ℕ) (more : List ℕ) → IsPoolNext decls (part_text (32 ∷ word) decls pools ++ rest) pool more → ⊥
+part_is_no_name decls word [] rest free no_name last pool more h = last pool more h
+part_is_no_name decls word (p ∷ pools) rest free no_name last pool more h =
+    not_is_no_name decls word (names_text decls (p ∷ pools) ++ rest) free no_name refl pool more
+    (subst (λ (t : List ℕ). IsPoolNext decls (32 ∷ t) pool more) (append_assoc word (names_text decls (p ∷ pools)) rest) h)

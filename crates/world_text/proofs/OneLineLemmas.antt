@@ -1,19 +1,20 @@
 -- A text begins with one line of a script at most.
-use Rattle.std.proofs.Common.{◌≡◌, inl, ℕ, zero, suc, ◌<◌, Some, slice_get, List, [], ◌∷◌, ◌++◌, drop, get_or, length, refl, sym, ap, subst, ◌∙◌, arith, ℤ}
+use Rattle.std.proofs.Common.{◌≡◌, inl, inr, ℕ, zero, suc, ◌<◌, Some, slice_get, List, [], ◌∷◌, ◌++◌, drop, get_or, length, codes, refl, sym, ap, subst, ◌∙◌, arith, ℤ}
 use Rattle.std.specs.List.{AllByRecursion}
 use Rattle.std.specs.Option.{option_map_or}
 use Rattle.std.specs.Prelude.{true}
-use Rattle.std.proofs.lemmas.List.{append-nil}
+use Rattle.std.proofs.lemmas.List.{append_cancel_left}
 use Rattle.entity_id.specs.declared.entity.Profile.{Profile}
 use Rattle.entity_id.specs.declared.entity.Entity.{Entity}
 use Rattle.entity_id.specs.Identifiers.{HasLimits}
 use Rattle.entity_id.proofs.CutLemmas.{same_cut}
-use Rattle.entity_id.proofs.FrontLemmas.{same_number}
 use Rattle.world_model.specs.declared.command.Command.TheVariants as command
 use Rattle.world_model.specs.declared.component.Decl.{Decl}
 use Rattle.world_model.specs.declared.component.Kind.{Kind}
+use Rattle.world_model.specs.declared.component.Kind.TheVariants as kind
 use Rattle.world_model.specs.declared.component.Row.{Row}
 use Rattle.world_model.specs.declared.event.EventKind.{EventKind}
+use Rattle.world_model.specs.declared.group.GroupDecl.{GroupDecl}
 use Rattle.world_model.specs.declared.event.EventKind.TheVariants as event
 use Rattle.world_model.specs.Components.{IsDecl, fits, fits_kind}
 use Rattle.world_model.specs.Conditions.{MaySet}
@@ -24,14 +25,16 @@ use Rattle.world_text.specs.declared.verbs.Verb.TheVariants as verb
 use Rattle.world_text.specs.Documents.{value_in, values_in}
 use Rattle.world_text.specs.Lines.{IsValue, value_text, values_text}
 use Rattle.world_text.specs.Meaning.{row_of, field_of_value}
-use Rattle.world_text.specs.Scripts.{row_text, field_text, field_value_text, name_at, names_text, event_word, IsLineFirst}
-use Rattle.world_text.specs.ScriptReading.{AreNamesNext, HasFewFields, IsKeptAs, IsEntityNext, IsRowLast, IsFieldLast, AreEntityNames, IsViewLast, IsWithoutLast, IsWatchLast, IsLineBehind}
+use Rattle.world_text.specs.NameLists.{name_at}
+use Rattle.world_text.specs.Scripts.{row_text, field_text, field_value_text, event_word, IsLineFirst}
+use Rattle.world_text.specs.ScriptReading.{AreSomeNext, IsNumberNext, IsFieldNext, IsPoolSort, IsGroupSort, HasFewFields, IsKeptAs, IsEntityNext, IsRowLast, IsFieldLast, AreEntityNames, IsViewLast, IsPartNext, IsWatchLast, IsLineBehind}
 use Rattle.world_text.specs.Verbs.{word_of, entity_command, entry_command, row_command, names_command}
+use Rattle.world_text.proofs.GroupLineLemmas.{one_group}
 use Rattle.world_text.proofs.KeptLemmas.{one_kept}
 use Rattle.world_text.proofs.FieldLemmas.{few_fields, one_field, one_field_text}
-use Rattle.world_text.proofs.LinePartLemmas.{one_entity, one_entry}
+use Rattle.world_text.proofs.LinePartLemmas.{one_entity, one_entry, one_number}
 use Rattle.world_text.proofs.NameLemmas.{IsFree, one_pool, same_name_split}
-use Rattle.world_text.proofs.NameListLemmas.{one_names, pools_of_text, go_on, none_left, end_is_no_name}
+use Rattle.world_text.proofs.NameListLemmas.{one_some, one_part}
 use Rattle.world_text.proofs.PrintedValues.{few_kinds, row_kept, row_spelled, field_kept}
 use Rattle.world_text.proofs.RowCommandLemmas.{decl_at, row_text_at, field_parts}
 use Rattle.world_text.proofs.SplitLineLemmas.{split_line, same_verb, word_free}
@@ -112,30 +115,39 @@ one_value profile decls text x y e f a b m n v w limits p q =
 
 -- ---- lists
 
-one_without : (decls : List Decl) (others text x y a b : List ℕ) → IsWithoutLast decls others text a x → IsWithoutLast decls others text b y → (a ≡ b) × (x ≡ y)
-one_without decls others text x y [] [] p q = (refl, ap (drop 1) (sym p.whole ∙ q.whole))
-one_without decls others text x y [] (k ∷ b) p q = absurd (omega (arith, ap (λ (t : List ℕ). get_or t 0 0) (sym p.whole ∙ q.whole)))
-one_without decls others text x y (k ∷ a) [] p q = absurd (omega (arith, ap (λ (t : List ℕ). get_or t 0 0) (sym p.whole ∙ q.whole)))
-one_without decls others text x y (j ∷ a) (k ∷ b) p q =
-    let behind = names_text decls (j ∷ a) ++ 10 ∷ x in
-    let next = pools_of_text decls behind (j ∷ a) (10 ∷ x) p.called refl refl in
-    let other = pools_of_text decls behind (k ∷ b) (10 ∷ y) q.called refl (ap (drop 4) (sym p.whole ∙ q.whole)) in
-    let on = go_on decls behind (j ∷ a) (10 ∷ x) (k ∷ b) (10 ∷ y) next other (end_is_no_name decls y) in
-    let none = none_left decls (10 ∷ x) on.0 (10 ∷ y) on.2 (end_is_no_name decls x) in
-    (sym (on.1 ∙ ap (λ (left : List ℕ). (j ∷ a) ++ left) none.0 ∙ append-nil (j ∷ a)), ap (drop 1) none.1)
-
 one_entity_names : (profile : Profile) (decls : List Decl) (text x y : List ℕ) (e f : Entity) (a b : List ℕ) → HasLimits profile → AreEntityNames profile decls text e a x → AreEntityNames profile decls text f b y → (e ≡ f) × (a ≡ b) × (x ≡ y)
 one_entity_names profile decls text x y e f a b limits p q =
     let entity = one_entity profile text p.behind q.behind e f limits p.first q.first in
-    let names = one_names decls [] p.behind p.order (10 ∷ x) q.order (10 ∷ y) p.names.names (subst (λ (t : List ℕ). AreNamesNext decls [] t q.order (10 ∷ y)) (sym entity.1) q.names.names) in
+    let names = one_some decls [] p.behind p.order (10 ∷ x) q.order (10 ∷ y) p.names.names (subst (λ (t : List ℕ). AreSomeNext decls [] t q.order (10 ∷ y)) (sym entity.1) q.names.names) in
     (entity.0, one_kept p.order a b p.kept (subst (λ (o : List ℕ). IsKeptAs o b) (sym names.0) q.kept), ap (drop 1) names.1)
 
 one_view : (decls : List Decl) (text x y : List ℕ) (a b u v : List ℕ) → IsViewLast decls text a u x → IsViewLast decls text b v y → (a ≡ b) × (u ≡ v) × (x ≡ y)
 one_view decls text x y a b u v p q =
-    let names = one_names decls [] text p.order p.behind q.order q.behind p.names q.names in
-    let out = one_without decls p.order p.behind x y p.excluded q.excluded p.out
-    (subst (λ (t : List ℕ). IsWithoutLast decls p.order t q.excluded y) (sym names.1) (subst (λ (o : List ℕ). IsWithoutLast decls o q.behind q.excluded y) (sym names.0) q.out)) in
-    (one_kept p.order a b p.kept (subst (λ (o : List ℕ). IsKeptAs o b) (sym names.0) q.kept), one_kept p.excluded u v p.kept_out (subst (λ (o : List ℕ). IsKeptAs o v) (sym out.0) q.kept_out), out.1)
+    let names = one_some decls [] text p.order p.behind q.order q.behind p.names q.names in
+    let out = one_part decls p.order (codes " not") p.behind p.excluded (10 ∷ x) q.excluded (10 ∷ y) p.out
+    (subst (λ (t : List ℕ). IsPartNext decls p.order (codes " not") t q.excluded (10 ∷ y)) (sym names.1) (subst (λ (o : List ℕ). IsPartNext decls o (codes " not") q.behind q.excluded (10 ∷ y)) (sym names.0) q.out)) in
+    (one_kept p.order a b p.kept (subst (λ (o : List ℕ). IsKeptAs o b) (sym names.0) q.kept), one_kept p.excluded u v p.kept_out (subst (λ (o : List ℕ). IsKeptAs o v) (sym out.0) q.kept_out), ap (drop 1) out.1)
+
+-- ---- sorts
+
+-- a text begins with one field up to the end of a line
+one_key : (decls : List Decl) (text x y : List ℕ) (a b m n : ℕ) → IsFieldNext decls text a m kind.Int (10 ∷ x) → IsFieldNext decls text b n kind.Int (10 ∷ y) → (x ≡ y) × (AreDecls decls → (a ≡ b) × (m ≡ n))
+one_key decls text x y a b m n p q = (
+  ap (drop 1) (one_field_text decls text (10 ∷ x) (10 ∷ y) a b m n kind.Int kind.Int p q).2,
+  λ each. (let same = one_field decls text (10 ∷ x) (10 ∷ y) a b m n kind.Int kind.Int (few_in decls a each p.called.declared) p q in (same.0, same.1)),
+)
+
+one_pool_sort : (decls : List Decl) (text x y : List ℕ) (a b m n : ℕ) → IsPoolSort decls text a m x → IsPoolSort decls text b n y → (x ≡ y) × (AreDecls decls → (a ≡ b) × (m ≡ n))
+one_pool_sort decls text x y a b m n p q =
+    let same = append_cancel_left (codes " pool") q.behind p.behind (sym q.begins ∙ p.begins) in
+    one_key decls p.behind x y a b m n p.key (subst (λ (t : List ℕ). IsFieldNext decls t b n kind.Int (10 ∷ y)) same q.key)
+
+one_group_sort : (decls : List Decl) (text x y : List ℕ) (g h a b m n : ℕ) → IsGroupSort decls text g a m x → IsGroupSort decls text h b n y → (g ≡ h) × (x ≡ y) × (AreDecls decls → (a ≡ b) × (m ≡ n))
+one_group_sort decls text x y g h a b m n p q =
+    let same = append_cancel_left (codes " group") q.behind p.behind (sym q.begins ∙ p.begins) in
+    let number = one_number p.behind p.later q.later g h p.number (subst (λ (t : List ℕ). IsNumberNext t h q.later) same q.number) in
+    let key = one_key decls p.later x y a b m n p.key (subst (λ (t : List ℕ). IsFieldNext decls t b n kind.Int (10 ∷ y)) (sym number.1) q.key) in
+    (number.0, key.0, key.1)
 
 -- ---- watches
 
@@ -188,11 +200,25 @@ one_behind profile decls verb.Clear text x y a b limits p q =
 one_behind profile decls verb.View text x y a b limits p q =
     let same = one_view decls text x y p.0 q.0 p.1 q.1 p.2 q.2 in
     (same.2, λ _. p.3 ∙ (λ i. Run (command.View (same.0 i) (same.1 i))) ∙ sym q.3)
+one_behind profile decls verb.Group text x y a b limits p q =
+    let same = one_group decls text p.0 q.0 x y p.1 q.1 in
+    (same.1, λ _. p.2 ∙ ap (λ (group : GroupDecl). Run (command.Group group)) same.0 ∙ sym q.2)
+one_behind profile decls verb.Members text x y a b limits p q =
+    let same = one_number text (10 ∷ x) (10 ∷ y) p.0 q.0 p.1 q.1 in
+    (ap (drop 1) same.1, λ _. p.2 ∙ ap (λ (group : ℕ). Run (command.Members group)) same.0 ∙ sym q.2)
+one_behind profile decls verb.Sort text x y a b limits (inl p) (inl q) =
+    let same = one_pool_sort decls text x y p.0 q.0 p.1 q.1 p.2 q.2 in
+    (same.0, λ each. let key = same.1 each in p.3 ∙ (λ i. Run (command.SortPool (key.0 i) (key.1 i))) ∙ sym q.3)
+one_behind profile decls verb.Sort text x y a b limits (inl p) (inr q) = absurd (omega (arith, ap (λ (t : List ℕ). get_or t 1 0) (sym p.2.begins ∙ q.3.begins)))
+one_behind profile decls verb.Sort text x y a b limits (inr p) (inl q) = absurd (omega (arith, ap (λ (t : List ℕ). get_or t 1 0) (sym p.3.begins ∙ q.2.begins)))
+one_behind profile decls verb.Sort text x y a b limits (inr p) (inr q) =
+    let same = one_group_sort decls text x y p.0 q.0 p.1 q.1 p.2 q.2 p.3 q.3 in
+    (same.1, λ each. let key = same.2 each in p.4 ∙ (λ i. Run (command.SortGroup (same.0 i) (key.0 i) (key.1 i))) ∙ sym q.4)
 one_behind profile decls verb.Watch text x y a b limits p q =
     let same = one_watch decls text x y p.0 q.0 p.1 q.1 p.2 q.2 in
     (same.2, λ _. p.3 ∙ (λ i. Watch (same.0 i) (same.1 i)) ∙ sym q.3)
 one_behind profile decls verb.Unwatch text x y a b limits p q =
-    let same = same_number p.0 q.0 (10 ∷ x) (10 ∷ y) (omega (arith, p.1.within)) (omega (arith, q.1.within)) (inl (omega arith)) (inl (omega arith)) (ap (drop 1) (sym p.1.whole ∙ q.1.whole)) in
+    let same = one_number text (10 ∷ x) (10 ∷ y) p.0 q.0 p.1 q.1 in
     (ap (drop 1) same.1, λ _. p.2 ∙ ap Unwatch same.0 ∙ sym q.2)
 
 -- a text begins with one line

@@ -11,9 +11,9 @@ use Rattle.world_model.specs.Components.{kinds_of}
 use Rattle.world_model.specs.Names.{is_name}
 use Rattle.world_text.specs.declared.format.Format.{Format}
 use Rattle.world_text.specs.declared.draft.Draft.{Draft}
-use Rattle.world_text.specs.LineKinds.{Line}
+use Rattle.world_text.specs.LineKinds.{Line, NamedGroup}
 use Rattle.world_text.specs.LineKinds as line
-use Rattle.world_text.specs.Lines.{IsLine, IsNamedDecl, line_text, kind_text, decl_text}
+use Rattle.world_text.specs.Lines.{IsLine, IsNamedDecl, IsNamedGroup, line_text, lists_text, kind_text, decl_text}
 use Rattle.world_text.specs.Reading.{IsNumberLine, IsWordSplit}
 use Rattle.world_text.specs.Drafts.{Refuses, RefusesLine}
 use Rattle.world_text.proofs.WordLemmas.{same_split, name_lacks, kinds_spaced, kinds_free}
@@ -30,7 +30,8 @@ tag_of_byte byte =
     if byte == 110 then 5 else
     if byte == 112 then 6 else
     if byte == 114 then 7 else
-    if byte == 101 then 8 else 0
+    if byte == 101 then 8 else
+    if byte == 103 then 9 else 0
 
 -- the kind of the lines that begin a text
 abbrev tag_at : List ℕ → ℕ
@@ -47,6 +48,7 @@ tag_at_free false number more = refl
 tag_at_line : (format : Format) (l : Line) (more : List ℕ) → tag_at (line_text format l ++ more) ≡ tag l
 tag_at_line format line.Version more = refl
 tag_at_line format (line.Component decl) more = refl
+tag_at_line format (line.Group named) more = refl
 tag_at_line format (line.Tick tick) more = refl
 tag_at_line format (line.Slot slot) more = tag_at_free slot.live (decimal slot.version) more
 tag_at_line format (line.Next index) more = refl
@@ -134,3 +136,13 @@ decl_is_front text front back decl more cut is e =
 pub component_parts : (text word kinds : List ℕ) (decl : Decl) → IsWordSplit text word kinds → IsNamedDecl decl → text ≡ decl_text decl → (word ≡ decl.name) × (kinds ≡ flat_map kind_text (kinds_of decl))
 component_parts text word kinds decl split is e =
     same_split word decl.name kinds (flat_map kind_text (kinds_of decl)) split.spaceless (name_lacks 32 refl decl.name is.name) split.spaced (kinds_spaced (kinds_of decl)) (sym split.whole ∙ e)
+
+-- ---- groups
+
+group_refused : (draft : Draft) (text more : List ℕ) (l : Line) → 9 ≡ tag l → ((named : NamedGroup) → IsNamedGroup named → text ≡ lists_text named ++ 10 ∷ more → Refuses draft (line.Group named)) → IsLine draft.format l → codes "group" ++ text ≡ line_text draft.format l ++ 10 ∷ more → Refuses draft l
+group_refused draft text more (line.Group named) kind none is e = none named is (ap (drop 5) e)
+group_refused draft text more l kind none is e = absurd (omega arith)
+
+-- behind the word `group` stand the names of a group
+pub refuses_group : (draft : Draft) (text : List ℕ) → ((named : NamedGroup) (more : List ℕ) → IsNamedGroup named → text ≡ lists_text named ++ 10 ∷ more → Refuses draft (line.Group named)) → RefusesLine draft (codes "group" ++ text)
+refuses_group draft text none = λ l more is e. group_refused draft text more l (tag_is draft.format (codes "group" ++ text) l more e) (λ named. none named more) is e

@@ -7,6 +7,7 @@ use Rattle.std.proofs.lemmas.List.Sums.{sum_by-cons}
 use Rattle.std.proofs.lemmas.List.Folds.{list_any-append}
 use Rattle.std.proofs.lemmas.Bool.{and_parts, and_from, or_parts, or_from, le-leb, lt-ltb, not_from_false, not-true}
 use Rattle.world_model.specs.declared.component.Decl.{Decl}
+use Rattle.world_model.specs.declared.group.GroupDecl.{GroupDecl}
 use Rattle.world_model.specs.declared.slot.Slot.{Slot}
 use Rattle.world_model.specs.Slots.{is_free_at}
 use Rattle.world_model.specs.Components.{has_name}
@@ -16,10 +17,11 @@ use Rattle.world_text.specs.declared.section.Section.TheVariants as section
 use Rattle.world_text.specs.LineKinds.{Line}
 use Rattle.world_text.specs.LineKinds as line
 use Rattle.world_text.specs.Sections.{order, is_between}
-use Rattle.world_text.specs.Meaning.{decl_in, slot_in, settled_from, settled}
-use Rattle.world_text.specs.Fitting.{last_section, fits, fit_after}
-use Rattle.world_text.specs.Documents.{are_named_apart}
-use Rattle.world_text.proofs.MeaningLemmas.{flat_map_push, last_section_push}
+use Rattle.world_text.specs.Meaning.{decl_in, group_of, groups_in, slot_in, settled_from, settled}
+use Rattle.world_text.specs.Fitting.{last_section, are_listed, may_join, fits, fit_after}
+use Rattle.world_text.specs.Documents.{are_named_apart, named_of, group_line}
+use Rattle.world_text.proofs.GroupLemmas.{IsSaid, MayJoin}
+use Rattle.world_text.proofs.MeaningLemmas.{flat_map_push, keeps, groups_gain, last_section_push}
 use Rattle.world_text.proofs.SettledLemmas.{settled_next, unlisted_by_flag}
 
 -- ---- lists of lines
@@ -59,15 +61,30 @@ decls_fit format before (d ∷ ds) low high few new apart =
     (decls_fit format (before ++ l ∷ []) ds (omega arith) (omega arith) (omega (arith, ap length gained, length-append (flat_map decl_in before) (d ∷ [])))
     (subst (λ (old : List Decl). AllByRecursion (λ e. list_any (has_name e.name) old ≡ false) ds) (sym gained) (still_new _ ds d new.1 (not-true _ h.0))) h.1)
 
+-- ---- groups
+
+-- groups fit where their lines say them, and each may be added to those before it
+pub groups_fit : (format : Format) (before : List Line) (decls : List Decl) (groups : List GroupDecl) → flat_map decl_in before ≡ decls → 1 ≤ order (last_section before) → order (last_section before) ≤ 3 → AllByRecursion (IsSaid decls) groups → MayJoin (groups_in before) groups → fit_after format before (map (group_line decls) groups) ≡ true
+groups_fit format before decls [] are low high said joins = refl
+groups_fit format before decls (g ∷ groups) are low high said joins =
+    let named = named_of decls g in
+    let l : Line = group_line decls g in
+    let rise : order (last_section (before ++ l ∷ [])) ≡ 3 = ap order (last_section_push before l high) in
+    let its : group_of (flat_map decl_in before) named ≡ g = ap (λ (ds : List Decl). group_of ds named) are ∙ said.0.same in
+    let gained : groups_in before ++ g ∷ [] ≡ groups_in (before ++ l ∷ []) = ap (λ (d : GroupDecl). groups_in before ++ d ∷ []) (sym its) ∙ groups_gain before named in
+    and_from _ _
+    (and_from _ _ (between section.Version section.Groups (last_section before) low high) (and_from _ _ (ap (λ (ds : List Decl). are_listed ds named) are ∙ said.0.listed) (ap (may_join (groups_in before)) its ∙ joins.0)))
+    (groups_fit format (before ++ l ∷ []) decls groups (sym (keeps decl_in before l _ refl refl) ∙ are) (omega arith) (omega arith) said.1 (subst (λ (old : List GroupDecl). MayJoin old groups) gained joins.1))
+
 -- ---- slots
 
 -- slots fit up to the limit
-pub slots_fit : (format : Format) (before : List Line) (ss : List Slot) → 3 ≤ order (last_section before) → order (last_section before) ≤ 4 → length (flat_map slot_in before) + length ss ≤ format.slot_limit → fit_after format before (map line.Slot ss) ≡ true
+pub slots_fit : (format : Format) (before : List Line) (ss : List Slot) → 4 ≤ order (last_section before) → order (last_section before) ≤ 5 → length (flat_map slot_in before) + length ss ≤ format.slot_limit → fit_after format before (map line.Slot ss) ≡ true
 slots_fit format before [] low high few = refl
 slots_fit format before (s ∷ ss) low high few =
     let l = line.Slot s in
     let gained : flat_map slot_in (before ++ l ∷ []) ≡ flat_map slot_in before ++ s ∷ [] = flat_map_push slot_in before l in
-    let rise : order (last_section (before ++ l ∷ [])) ≡ 4 = ap order (last_section_push before l high) in
+    let rise : order (last_section (before ++ l ∷ [])) ≡ 5 = ap order (last_section_push before l high) in
     and_from _ _ (and_from _ _ (between section.Tick section.Slots (last_section before) low high) (lt-ltb (length (flat_map slot_in before)) format.slot_limit (omega arith)))
     (slots_fit format (before ++ l ∷ []) ss (omega arith) (omega arith) (omega (arith, ap length gained, length-append (flat_map slot_in before) (s ∷ []))))
 
@@ -96,11 +113,11 @@ listed_any i (n ∷ ns) some =
     ] (times-cons i n ns)
 
 -- free indices fit where none comes twice and each is unsettled
-pub nexts_fit : (format : Format) (before : List Line) (ns : List ℕ) → 3 ≤ order (last_section before) → order (last_section before) ≤ 5 → ((i : ℕ) → times i ns ≤ 1) → ((i : ℕ) → 0 < times i ns → get_or (settled before) i true ≡ false) → fit_after format before (map line.Next ns) ≡ true
+pub nexts_fit : (format : Format) (before : List Line) (ns : List ℕ) → 4 ≤ order (last_section before) → order (last_section before) ≤ 6 → ((i : ℕ) → times i ns ≤ 1) → ((i : ℕ) → 0 < times i ns → get_or (settled before) i true ≡ false) → fit_after format before (map line.Next ns) ≡ true
 nexts_fit format before [] low high once open_at = refl
 nexts_fit format before (n ∷ ns) low high once open_at =
     let l = line.Next n in
-    let rise : order (last_section (before ++ l ∷ [])) ≡ 5 = ap order (last_section_push before l high) in
+    let rise : order (last_section (before ++ l ∷ [])) ≡ 6 = ap order (last_section_push before l high) in
     let no_more : times n ns ≡ 0 = omega (arith, times-here n ns, once n) in
     and_from _ _ (and_from _ _ (between section.Tick section.FreeList (last_section before) low high) (sym (unlisted_by_flag before n) ∙ not_from_false _ (open_at n (omega (arith, times-here n ns)))))
     (nexts_fit format (before ++ l ∷ []) ns (omega arith) (omega arith) (λ i. omega (arith, times-more i n ns, once i)) (λ i listed.

@@ -8,6 +8,7 @@ use Rattle.std.proofs.lemmas.Bool.{and_from, eq-eqb, not_from_true}
 use Rattle.entity_id.specs.declared.entity.Profile.{Profile}
 use Rattle.entity_id.proofs.ListLemmas.{all-append, all-map, all_weaker}
 use Rattle.world_model.specs.declared.component.Decl.{Decl}
+use Rattle.world_model.specs.declared.group.GroupDecl.{GroupDecl}
 use Rattle.world_model.specs.declared.slot.Slot.{Slot}
 use Rattle.world_model.specs.declared.world.World.{World}
 use Rattle.world_model.specs.Slots.{is_free_at, AreLawfulSlots}
@@ -21,12 +22,13 @@ use Rattle.world_text.specs.LineKinds as line
 use Rattle.world_text.specs.Formats.{version_1}
 use Rattle.world_text.specs.Sections.{order, later}
 use Rattle.world_text.specs.Lines.{IsLine, IsNamedDecl, text_of}
-use Rattle.world_text.specs.Meaning.{decl_in, slot_in, next_in, pools_in, settled_from, settled}
+use Rattle.world_text.specs.Meaning.{decl_in, group_of, groups_in, slot_in, next_in, pools_in, settled_from, settled}
 use Rattle.world_text.specs.Fitting.{section_of, last_section, fits, fit_after}
-use Rattle.world_text.specs.Documents.{IsDocumentOf, IsDocument, IsLawfulDocumentOf, IsLawfulDocument, are_named_apart, pool_lines, lines_of, text}
-use Rattle.world_text.proofs.MeaningLemmas.{flat_map_push, order_later, later_is, order_last_section-append, last_section_push, no_next_yet, no_pool_yet}
+use Rattle.world_text.specs.Documents.{IsDocumentOf, IsDocument, IsLawfulDocumentOf, IsLawfulDocument, are_named_apart, group_line, pool_lines, lines_of, text}
+use Rattle.world_text.proofs.MeaningLemmas.{flat_map_push, order_later, later_is, order_last_section-append, last_section_push, no_group_yet, no_next_yet, no_pool_yet}
+use Rattle.world_text.proofs.GroupLemmas.{IsSaid, MayJoin, lawful_groups_said, lawful_join}
 use Rattle.world_text.proofs.PrintedMeaning.{none_in, each_in, world_printed}
-use Rattle.world_text.proofs.PrintedFits.{times, fit_append, between, new_at_first, decls_fit, slots_fit, nexts_fit, listed_any, settled_at, settled_by, free_within, each_listed}
+use Rattle.world_text.proofs.PrintedFits.{times, fit_append, between, new_at_first, decls_fit, groups_fit, slots_fit, nexts_fit, listed_any, settled_at, settled_by, free_within, each_listed}
 use Rattle.world_text.proofs.PrintedPools.{IsBeforePools, pools_fit}
 use Rattle.world_text.proofs.PrintedLines.{pools_lined}
 
@@ -50,18 +52,23 @@ low_decls : (ds : List Decl) → order (last_section (map line.Component ds)) �
 low_decls [] = omega arith
 low_decls (d ∷ ds) = omega (arith, order_later section.Components (last_section (map line.Component ds)), low_decls ds)
 
-low_slots : (ss : List Slot) → order (last_section (map line.Slot ss)) ≤ 4
+low_groups : (decls : List Decl) (gs : List GroupDecl) → order (last_section (map (group_line decls) gs)) ≤ 3
+low_groups decls [] = omega arith
+low_groups decls (g ∷ gs) = omega (arith, order_later section.Groups (last_section (map (group_line decls) gs)), low_groups decls gs)
+
+low_slots : (ss : List Slot) → order (last_section (map line.Slot ss)) ≤ 5
 low_slots [] = omega arith
 low_slots (s ∷ ss) = omega (arith, order_later section.Slots (last_section (map line.Slot ss)), low_slots ss)
 
-low_nexts : (ns : List ℕ) → order (last_section (map line.Next ns)) ≤ 5
+low_nexts : (ns : List ℕ) → order (last_section (map line.Next ns)) ≤ 6
 low_nexts [] = omega arith
 low_nexts (n ∷ ns) = omega (arith, order_later section.FreeList (last_section (map line.Next ns)), low_nexts ns)
 
-up_to_end : (part : Section) → order part ≤ 7
+up_to_end : (part : Section) → order part ≤ 8
 up_to_end section.Start = omega arith
 up_to_end section.Version = omega arith
 up_to_end section.Components = omega arith
+up_to_end section.Groups = omega arith
 up_to_end section.Tick = omega arith
 up_to_end section.Slots = omega arith
 up_to_end section.FreeList = omega arith
@@ -77,18 +84,20 @@ end_behind (l ∷ a) b ended = ap (later (section_of l)) (end_behind a b ended) 
 
 -- the lines of a world, with its identifiers of a profile
 abbrev lines_at : Profile → World → List Line
-lines_at profile w = line.Version ∷ (map line.Component w.decls ++ (line.Tick w.tick ∷ (map line.Slot w.slots ++ (map line.Next w.free ++ (flat_map (pool_lines profile) (zip w.decls w.pools) ++ line.End ∷ [])))))
+lines_at profile w = line.Version ∷ (map line.Component w.decls ++ (map (group_line w.decls) w.groups ++ (line.Tick w.tick ∷ (map line.Slot w.slots ++ (map line.Next w.free ++ (flat_map (pool_lines profile) (zip w.decls w.pools) ++ line.End ∷ []))))))
 
 ends_printed : (profile : Profile) (w : World) → last_section (lines_at profile w) ≡ section.End
 ends_printed profile w =
     end_behind (line.Version ∷ map line.Component w.decls) _
-    (end_behind (line.Tick w.tick ∷ map line.Slot w.slots) _ (end_behind (map line.Next w.free) _ (end_behind (flat_map (pool_lines profile) (zip w.decls w.pools)) (line.End ∷ []) refl)))
+    (end_behind (map (group_line w.decls) w.groups) _ (end_behind (line.Tick w.tick ∷ map line.Slot w.slots) _ (end_behind (map line.Next w.free) _ (end_behind (flat_map (pool_lines profile) (zip w.decls w.pools)) (line.End ∷ []) refl))))
 
 -- what the lines of a document are printed from, with the format's profile
 record IsPrintable (format : Format) (w : World) : Type 0 where
   few_decls : length w.decls ≤ 64
   named : AllByRecursion IsNamedDecl w.decls
   apart : are_named_apart w.decls ≡ true
+  said : AllByRecursion (IsSaid w.decls) w.groups
+  joins : MayJoin [] w.groups
   tick : w.tick ≤ 1000000000000
   slots : AreLawfulSlots format.profile format.slot_limit w.slots w.free
   pools : AllZip (AreLawfulRows format.profile w.slots) w.decls w.pools
@@ -96,15 +105,19 @@ record IsPrintable (format : Format) (w : World) : Type 0 where
 free_is : (format : Format) (w : World) → IsPrintable format w → (i : ℕ) → 0 < times i w.free → is_free_at w.slots i ≡ true
 free_is format w h i some = some_if (is_free_at w.slots i) (times i w.free) (h.slots.listed i) some
 
+groups_spelled : (decls : List Decl) (format : Format) (groups : List GroupDecl) → AllByRecursion (IsSaid decls) groups → AllByRecursion (IsLine format) (map (group_line decls) groups)
+groups_spelled decls format [] said = tt
+groups_spelled decls format (g ∷ groups) said = (said.0.is, groups_spelled decls format groups said.1)
+
 lines_spelled : (format : Format) (w : World) → IsPrintable format w → AllByRecursion (IsLine format) (lines_at format.profile w)
 lines_spelled format w h = (
   tt,
-  all-append (IsLine format) (map line.Component w.decls) _ (all-map (IsLine format) line.Component w.decls h.named) (
+  all-append (IsLine format) (map line.Component w.decls) _ (all-map (IsLine format) line.Component w.decls h.named) (all-append (IsLine format) (map (group_line w.decls) w.groups) _ (groups_spelled w.decls format w.groups h.said) (
     h.tick,
     all-append (IsLine format) (map line.Slot w.slots) _ (all-map (IsLine format) line.Slot w.slots h.slots.versions)
         (all-append (IsLine format) (map line.Next w.free) _ (all-map (IsLine format) line.Next w.free (each_listed (λ i. i < format.slot_limit) w.free (λ i some. omega (arith, free_within w.slots i (free_is format w h i some), h.slots.few))))
         (all-append (IsLine format) (flat_map (pool_lines format.profile) (zip w.decls w.pools)) (line.End ∷ []) (pools_lined format w.slots w.free w.decls w.pools h.slots h.named h.pools) (tt, tt))),
-  ),
+  )),
 )
 
 lines_fit : (format : Format) (w : World) → IsPrintable format w → fit_after format [] (lines_at format.profile w) ≡ true
@@ -113,30 +126,38 @@ lines_fit format w h =
     let b = map line.Slot w.slots in
     let c = map line.Next w.free in
     let pools = flat_map (pool_lines format.profile) (zip w.decls w.pools) in
-    let p1 = line.Version ∷ a in
+    let g = map (group_line w.decls) w.groups in
+    let p0 = line.Version ∷ a in
+    let p1 = p0 ++ g in
     let p2 = p1 ++ line.Tick w.tick ∷ [] in
     let p3 = p2 ++ b in
     let p4 = p3 ++ c in
     let p5 = p4 ++ pools in
     let start = order_later section.Version (last_section a) in
-    let r1_high : order (last_section p1) ≤ 2 = omega (arith, start, low_decls w.decls) in
-    let r1_low : 1 ≤ order (last_section p1) = omega (arith, start) in
-    let r2 : order (last_section p2) ≡ 3 = ap order (last_section_push p1 (line.Tick w.tick) (omega arith)) in
+    let r0_high : order (last_section p0) ≤ 2 = omega (arith, start, low_decls w.decls) in
+    let r0_low : 1 ≤ order (last_section p0) = omega (arith, start) in
+    let e1 = order_last_section-append p0 g in
+    let r1_high : order (last_section p1) ≤ 3 = omega (arith, e1, low_groups w.decls w.groups) in
+    let r1_low : 1 ≤ order (last_section p1) = omega (arith, e1) in
+    let r2 : order (last_section p2) ≡ 4 = ap order (last_section_push p1 (line.Tick w.tick) (omega arith)) in
     let e3 = order_last_section-append p2 b in
-    let r3_high : order (last_section p3) ≤ 4 = omega (arith, e3, low_slots w.slots) in
-    let r3_low : 3 ≤ order (last_section p3) = omega (arith, e3) in
+    let r3_high : order (last_section p3) ≤ 5 = omega (arith, e3, low_slots w.slots) in
+    let r3_low : 4 ≤ order (last_section p3) = omega (arith, e3) in
     let e4 = order_last_section-append p3 c in
-    let r4_high : order (last_section p4) ≤ 5 = omega (arith, e4, low_nexts w.free) in
-    let r4_low : 3 ≤ order (last_section p4) = omega (arith, e4) in
-    let s2 : flat_map slot_in p2 ≡ [] = flat_map_push slot_in p1 (line.Tick w.tick) ∙ append-nil (flat_map slot_in p1) ∙ none_in slot_in line.Component (λ _. refl) w.decls in
+    let r4_high : order (last_section p4) ≤ 6 = omega (arith, e4, low_nexts w.free) in
+    let r4_low : 4 ≤ order (last_section p4) = omega (arith, e4) in
+    let s1 : flat_map slot_in p1 ≡ [] = flat_map-append slot_in p0 g ∙ (λ i. none_in slot_in line.Component (λ _. refl) w.decls i ++ none_in slot_in (group_line w.decls) (λ _. refl) w.groups i) in
+    let s2 : flat_map slot_in p2 ≡ [] = flat_map_push slot_in p1 (line.Tick w.tick) ∙ append-nil (flat_map slot_in p1) ∙ s1 in
     let s3 : flat_map slot_in p3 ≡ w.slots = flat_map-append slot_in p2 b ∙ (λ i. s2 i ++ each_in slot_in line.Slot (λ _. refl) w.slots i) in
     let s4 : flat_map slot_in p4 ≡ w.slots = flat_map-append slot_in p3 c ∙ (λ i. s3 i ++ none_in slot_in line.Next (λ _. refl) w.free i) ∙ append-nil w.slots in
     let n3 : flat_map next_in p3 ≡ [] = no_next_yet p3 (omega arith) in
     let n4 : flat_map next_in p4 ≡ w.free = flat_map-append next_in p3 c ∙ (λ i. n3 i ++ each_in next_in line.Next (λ _. refl) w.free i) in
-    let d1 : flat_map decl_in p1 ≡ w.decls = each_in decl_in line.Component (λ _. refl) w.decls in
+    let d0 : flat_map decl_in p0 ≡ w.decls = each_in decl_in line.Component (λ _. refl) w.decls in
+    let d1 : flat_map decl_in p1 ≡ w.decls = flat_map-append decl_in p0 g ∙ (λ i. d0 i ++ none_in decl_in (group_line w.decls) (λ _. refl) w.groups i) ∙ append-nil w.decls in
     let d2 : flat_map decl_in p2 ≡ w.decls = flat_map_push decl_in p1 (line.Tick w.tick) ∙ append-nil (flat_map decl_in p1) ∙ d1 in
     let d3 : flat_map decl_in p3 ≡ w.decls = flat_map-append decl_in p2 b ∙ (λ i. d2 i ++ none_in decl_in line.Slot (λ _. refl) w.slots i) ∙ append-nil w.decls in
     let d4 : flat_map decl_in p4 ≡ w.decls = flat_map-append decl_in p3 c ∙ (λ i. d3 i ++ none_in decl_in line.Next (λ _. refl) w.free i) ∙ append-nil w.decls in
+    let g0 : groups_in p0 ≡ [] = ap (map (group_of (flat_map decl_in p0))) (no_group_yet p0 (omega arith)) in
     let open_at : (i : ℕ) → 0 < times i w.free → get_or (settled p3) i true ≡ false = λ i some. ap (λ flags. get_or flags i true) (λ j. settled_from 0 (s3 j) (n3 j)) ∙ settled_at 0 i w.slots ∙ not_from_true _ (free_is format w h i some) in
     let all_named : (k : ℕ) → is_free_at w.slots k ≡ true → list_any (λ m. m == (0 + k)) w.free ≡ true = λ k free. ap (λ n. list_any (λ m. m == n) w.free) (zero-add k) ∙ listed_any k w.free (if_some (is_free_at w.slots k) (times k w.free) (h.slots.listed k) free) in
     let state : IsBeforePools format w.slots p4 [] w.decls = record {
@@ -151,16 +172,24 @@ lines_fit format w h =
     let counted : length (pools_in format.profile p5) ≡ length (flat_map decl_in p5) = printed.1.count ∙ sym (ap length (printed.1.decls_are ∙ append-nil w.decls)) in
     let end : fits format p5 line.End ≡ true = and_from _ _ (between section.Tick section.Pools (last_section p5) printed.1.low printed.1.high) (and_from _ _ printed.1.settled (eq-eqb _ _ counted)) in
     fit_append format (line.Version ∷ []) a _ (decls_fit format (line.Version ∷ []) w.decls (omega arith) (omega arith) (omega (arith, h.few_decls)) (new_at_first w.decls) h.apart)
-    (and_from _ _ (between section.Version section.Components (last_section p1) r1_low r1_high)
+    (fit_append format p0 g _ (groups_fit format p0 w.decls w.groups d0 r0_low (omega arith) h.said (subst (λ (old : List GroupDecl). MayJoin old w.groups) (sym g0) h.joins))
+    (and_from _ _ (between section.Version section.Groups (last_section p1) r1_low r1_high)
     (fit_append format p2 b _ (slots_fit format p2 w.slots (omega arith) (omega arith) (omega (arith, ap length s2, h.slots.few)))
     (fit_append format p3 c _ (nexts_fit format p3 w.free r3_low (omega arith) (λ i. one_at_most (is_free_at w.slots i) (times i w.free) (h.slots.listed i)) open_at)
-    (fit_append format p4 pools (line.End ∷ []) printed.0 (and_from _ _ end refl)))))
+    (fit_append format p4 pools (line.End ∷ []) printed.0 (and_from _ _ end refl))))))
+
+said_lines : (format : Format) (document : Document) → IsLawfulDocumentOf format document → AllByRecursion (IsSaid document.world.decls) document.world.groups
+said_lines format document lawful =
+    let groups = lawful.world.groups in
+    lawful_groups_said document.world.decls document.world.groups lawful.named groups.declared groups.well_formed lawful.ascending
 
 printable : (format : Format) (document : Document) → IsLawfulDocumentOf format document → IsPrintable format document.world
 printable format document lawful = record {
   few_decls = lawful.world.few_decls;
   named = lawful.named.each;
   apart = lawful.named.apart;
+  said = said_lines format document lawful;
+  joins = lawful_join [] document.world.groups lawful.world.groups.few lawful.world.groups.well_formed lawful.world.groups.coexist;
   tick = lawful.tick;
   slots = subst (λ p. AreLawfulSlots p format.slot_limit document.world.slots document.world.free) lawful.profile lawful.world.slots;
   pools = subst (λ p. AllZip (AreLawfulRows p document.world.slots) document.world.decls document.world.pools) lawful.profile lawful.world.pools;
@@ -179,7 +208,7 @@ printed_is_document_of format document lawful =
       };
       ended = ends_printed w.profile w;
       spelled = refl;
-      world_is = world_printed format w lawful.world lawful.profile lawful.no_groups;
+      world_is = world_printed format w lawful.world lawful.profile (said_lines format document lawful);
     }
 
 -- what is printed is read again

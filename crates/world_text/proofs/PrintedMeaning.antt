@@ -7,6 +7,7 @@ use Rattle.entity_id.specs.declared.entity.Profile.{Profile}
 use Rattle.entity_id.specs.declared.entity.Entity.{Entity}
 use Rattle.world_model.specs.declared.component.Decl.{Decl}
 use Rattle.world_model.specs.declared.component.Row.{Row}
+use Rattle.world_model.specs.declared.group.GroupDecl.{GroupDecl}
 use Rattle.world_model.specs.declared.slot.Slot.{Slot}
 use Rattle.world_model.specs.declared.world.World.{World}
 use Rattle.world_model.specs.Components.{IsDecl, IsRow}
@@ -15,8 +16,9 @@ use Rattle.world_model.specs.Worlds.{IsLawful, AreLawfulRows}
 use Rattle.world_text.specs.declared.format.Format.{Format}
 use Rattle.world_text.specs.LineKinds.{Line}
 use Rattle.world_text.specs.LineKinds as line
-use Rattle.world_text.specs.Meaning.{decl_in, tick_in, slot_in, next_in, rows_in, pools_in, world_of}
-use Rattle.world_text.specs.Documents.{row_line, pool_lines, lines_of}
+use Rattle.world_text.specs.Meaning.{decl_in, group_in, group_of, groups_in, tick_in, slot_in, next_in, rows_in, pools_in, world_of}
+use Rattle.world_text.specs.Documents.{named_of, group_line, row_line, pool_lines, lines_of}
+use Rattle.world_text.proofs.GroupLemmas.{IsSaid}
 use Rattle.world_text.proofs.MeaningLemmas.{IsBesidePools}
 use Rattle.world_text.proofs.PrintedValues.{row_kept}
 
@@ -40,25 +42,55 @@ none_in_pools f no_pool no_row profile (pool ∷ pools) =
     ∙ (λ i. (no_pool pool.0.name i ++ none_in f (row_line profile pool.0) (no_row profile pool.0) pool.1 i) ++ none_in_pools f no_pool no_row profile pools i)
 
 -- a part of all the lines, kind by kind
-parts : {X : Type 0} (f : Line → List X) (w : World) → f line.Version ≡ [] → f line.End ≡ [] → ((name : List ℕ) → f (line.Pool name) ≡ []) → ((profile : Profile) (decl : Decl) (entry : Entity × Row) → f (row_line profile decl entry) ≡ []) → flat_map f (lines_of w) ≡ flat_map f (map line.Component w.decls) ++ (f (line.Tick w.tick) ++ (flat_map f (map line.Slot w.slots) ++ flat_map f (map line.Next w.free)))
+parts : {X : Type 0} (f : Line → List X) (w : World) → f line.Version ≡ [] → f line.End ≡ [] → ((name : List ℕ) → f (line.Pool name) ≡ []) → ((profile : Profile) (decl : Decl) (entry : Entity × Row) → f (row_line profile decl entry) ≡ []) → flat_map f (lines_of w) ≡ flat_map f (map line.Component w.decls) ++ (flat_map f (map (group_line w.decls) w.groups) ++ (f (line.Tick w.tick) ++ (flat_map f (map line.Slot w.slots) ++ flat_map f (map line.Next w.free))))
 parts f w no_format no_end no_pool no_row =
     let pools = flat_map (pool_lines w.profile) (zip w.decls w.pools) in
+    let groups = map (group_line w.decls) w.groups in
     let behind : flat_map f (pools ++ line.End ∷ []) ≡ [] = flat_map-append f pools (line.End ∷ []) ∙ (λ i. none_in_pools f no_pool no_row w.profile (zip w.decls w.pools) i ++ append-nil (f line.End) i) ∙ no_end in
-    ap (λ x. x ++ flat_map f (map line.Component w.decls ++ (line.Tick w.tick ∷ (map line.Slot w.slots ++ (map line.Next w.free ++ (pools ++ line.End ∷ [])))))) no_format
+    ap (λ x. x ++ flat_map f (map line.Component w.decls ++ (groups ++ (line.Tick w.tick ∷ (map line.Slot w.slots ++ (map line.Next w.free ++ (pools ++ line.End ∷ []))))))) no_format
     ∙ flat_map-append f (map line.Component w.decls) _
-    ∙ ap (λ x. flat_map f (map line.Component w.decls) ++ (f (line.Tick w.tick) ++ x)) (flat_map-append f (map line.Slot w.slots) _ ∙ ap (λ x. flat_map f (map line.Slot w.slots) ++ x) (flat_map-append f (map line.Next w.free) (pools ++ line.End ∷ []) ∙ ap (λ x. flat_map f (map line.Next w.free) ++ x) behind ∙ append-nil _))
+    ∙ ap (λ x. flat_map f (map line.Component w.decls) ++ x) (flat_map-append f groups _)
+    ∙ ap (λ x. flat_map f (map line.Component w.decls) ++ (flat_map f groups ++ (f (line.Tick w.tick) ++ x))) (flat_map-append f (map line.Slot w.slots) _ ∙ ap (λ x. flat_map f (map line.Slot w.slots) ++ x) (flat_map-append f (map line.Next w.free) (pools ++ line.End ∷ []) ∙ ap (λ x. flat_map f (map line.Next w.free) ++ x) behind ∙ append-nil _))
 
 decls_printed : (w : World) → flat_map decl_in (lines_of w) ≡ w.decls
-decls_printed w = parts decl_in w refl refl (λ _. refl) (λ _ _ _. refl) ∙ (λ i. each_in decl_in line.Component (λ _. refl) w.decls i ++ (none_in decl_in line.Slot (λ _. refl) w.slots i ++ none_in decl_in line.Next (λ _. refl) w.free i)) ∙ append-nil w.decls
+decls_printed w =
+    parts decl_in w refl refl (λ _. refl) (λ _ _ _. refl)
+    ∙ (λ i. each_in decl_in line.Component (λ _. refl) w.decls i ++ (none_in decl_in (group_line w.decls) (λ _. refl) w.groups i ++ (none_in decl_in line.Slot (λ _. refl) w.slots i ++ none_in decl_in line.Next (λ _. refl) w.free i)))
+    ∙ append-nil w.decls
+
+-- the group lines hold the groups by their names
+pub names_printed : (decls : List Decl) (groups : List GroupDecl) → flat_map group_in (map (group_line decls) groups) ≡ map (named_of decls) groups
+names_printed decls [] = refl
+names_printed decls (decl ∷ groups) = ap (λ ns. named_of decls decl ∷ ns) (names_printed decls groups)
+
+groups_said : (decls : List Decl) (groups : List GroupDecl) → AllByRecursion (IsSaid decls) groups → map (group_of decls) (map (named_of decls) groups) ≡ groups
+groups_said decls [] said = refl
+groups_said decls (decl ∷ groups) said = λ i. said.0.same i ∷ groups_said decls groups said.1 i
+
+groups_printed : (w : World) → AllByRecursion (IsSaid w.decls) w.groups → groups_in (lines_of w) ≡ w.groups
+groups_printed w said =
+    let names : flat_map group_in (lines_of w) ≡ map (named_of w.decls) w.groups =
+    parts group_in w refl refl (λ _. refl) (λ _ _ _. refl)
+    ∙ (λ i. none_in group_in line.Component (λ _. refl) w.decls i ++ (names_printed w.decls w.groups i ++ (none_in group_in line.Slot (λ _. refl) w.slots i ++ none_in group_in line.Next (λ _. refl) w.free i)))
+    ∙ append-nil (map (named_of w.decls) w.groups) in
+    (λ i. map (group_of (decls_printed w i)) (names i)) ∙ groups_said w.decls w.groups said
 
 slots_printed : (w : World) → flat_map slot_in (lines_of w) ≡ w.slots
-slots_printed w = parts slot_in w refl refl (λ _. refl) (λ _ _ _. refl) ∙ (λ i. none_in slot_in line.Component (λ _. refl) w.decls i ++ (each_in slot_in line.Slot (λ _. refl) w.slots i ++ none_in slot_in line.Next (λ _. refl) w.free i)) ∙ append-nil w.slots
+slots_printed w =
+    parts slot_in w refl refl (λ _. refl) (λ _ _ _. refl)
+    ∙ (λ i. none_in slot_in line.Component (λ _. refl) w.decls i ++ (none_in slot_in (group_line w.decls) (λ _. refl) w.groups i ++ (each_in slot_in line.Slot (λ _. refl) w.slots i ++ none_in slot_in line.Next (λ _. refl) w.free i)))
+    ∙ append-nil w.slots
 
 nexts_printed : (w : World) → flat_map next_in (lines_of w) ≡ w.free
-nexts_printed w = parts next_in w refl refl (λ _. refl) (λ _ _ _. refl) ∙ (λ i. none_in next_in line.Component (λ _. refl) w.decls i ++ (none_in next_in line.Slot (λ _. refl) w.slots i ++ each_in next_in line.Next (λ _. refl) w.free i))
+nexts_printed w =
+    parts next_in w refl refl (λ _. refl) (λ _ _ _. refl)
+    ∙ (λ i. none_in next_in line.Component (λ _. refl) w.decls i ++ (none_in next_in (group_line w.decls) (λ _. refl) w.groups i ++ (none_in next_in line.Slot (λ _. refl) w.slots i ++ each_in next_in line.Next (λ _. refl) w.free i)))
 
 tick_printed : (w : World) → get_or (flat_map tick_in (lines_of w)) 0 0 ≡ w.tick
-tick_printed w = ap (λ xs. get_or xs 0 0) (parts tick_in w refl refl (λ _. refl) (λ _ _ _. refl) ∙ (λ i. none_in tick_in line.Component (λ _. refl) w.decls i ++ (w.tick ∷ (flat_map tick_in (map line.Slot w.slots) ++ flat_map tick_in (map line.Next w.free)))))
+tick_printed w = ap (λ xs. get_or xs 0 0) (
+    parts tick_in w refl refl (λ _. refl) (λ _ _ _. refl)
+    ∙ (λ i. none_in tick_in line.Component (λ _. refl) w.decls i ++ (none_in tick_in (group_line w.decls) (λ _. refl) w.groups i ++ (w.tick ∷ (flat_map tick_in (map line.Slot w.slots) ++ flat_map tick_in (map line.Next w.free)))))
+    )
 
 -- ---- pools
 
@@ -104,18 +136,19 @@ pools_printed profile slots (decl ∷ decls) (rows ∷ pools) rest are_decls law
 all_pools : (limit : ℕ) (w : World) → IsLawful limit w → pools_in w.profile (lines_of w) ≡ w.pools
 all_pools limit w lawful =
     beside_each w.profile line.Component (λ _. tt) w.decls _
+    ∙ beside_each w.profile (group_line w.decls) (λ _. tt) w.groups _
     ∙ beside_each w.profile line.Slot (λ _. tt) w.slots _
     ∙ beside_each w.profile line.Next (λ _. tt) w.free _
     ∙ pools_printed w.profile w.slots w.decls w.pools (line.End ∷ []) lawful.decls lawful.pools refl refl
 
 -- the lines of a lawful world stand for it
-pub world_printed : (format : Format) (w : World) → IsLawful format.slot_limit w → w.profile ≡ format.profile → w.groups ≡ [] → w ≡ world_of format (lines_of w)
-world_printed format w lawful same no_groups =
+pub world_printed : (format : Format) (w : World) → IsLawful format.slot_limit w → w.profile ≡ format.profile → AllByRecursion (IsSaid w.decls) w.groups → w ≡ world_of format (lines_of w)
+world_printed format w lawful same said =
     let pools : w.pools ≡ pools_in format.profile (lines_of w) = sym (all_pools format.slot_limit w lawful) ∙ ap (λ (p : Profile). pools_in p (lines_of w)) same in
     λ i. record {
       profile = same i;
       decls = sym (decls_printed w) i;
-      groups = no_groups i;
+      groups = sym (groups_printed w said) i;
       tick = sym (tick_printed w) i;
       slots = sym (slots_printed w) i;
       free = sym (nexts_printed w) i;

@@ -45,6 +45,7 @@ no_slot false text version more e = omega (arith, ap (λ (t : List ℕ). get_or 
 pub row_text : (format : Format) (text more : List ℕ) (l : Line) → IsLine format l → codes "row " ++ text ≡ line_text format l ++ 10 ∷ more → IsRowText format text l more
 row_text format text more line.Version is e = absurd (omega (arith, ap (λ (t : List ℕ). get_or t 0 0) e))
 row_text format text more (line.Component decl) is e = absurd (omega (arith, ap (λ (t : List ℕ). get_or t 0 0) e))
+row_text format text more (line.Group named) is e = absurd (omega (arith, ap (λ (t : List ℕ). get_or t 0 0) e))
 row_text format text more (line.Tick tick) is e = absurd (omega (arith, ap (λ (t : List ℕ). get_or t 0 0) e))
 row_text format text more (line.Slot slot) is e = absurd (no_slot slot.live text (decimal slot.version) more e)
 row_text format text more (line.Next index) is e = absurd (omega (arith, ap (λ (t : List ℕ). get_or t 0 0) e))

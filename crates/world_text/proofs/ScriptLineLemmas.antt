@@ -1,5 +1,5 @@
 -- Lines of scripts: a word, and what stands behind it.
-use Rattle.std.proofs.Common.{◌≡◌, ℕ, ◌+◌, ◌<◌, ◌≤◌, List, [], ◌∷◌, ◌++◌, All, length, codes, refl, sym, ap, subst, ◌∙◌, arith, append_assoc}
+use Rattle.std.proofs.Common.{◌≡◌, inl, inr, ℕ, ◌+◌, ◌<◌, ◌≤◌, List, [], ◌∷◌, ◌++◌, All, length, codes, refl, sym, ap, subst, ◌∙◌, arith, append_assoc}
 use Rattle.std.specs.Fmt.{decimal}
 use Rattle.std.proofs.lemmas.List.{append-nil}
 use Rattle.std.proofs.lemmas.List.Elements.{All-nil}
@@ -24,10 +24,12 @@ use Rattle.world_text.specs.declared.verbs.RowVerb.{RowVerb}
 use Rattle.world_text.specs.declared.verbs.RowVerb.TheVariants as of_row
 use Rattle.world_text.specs.declared.verbs.Verb.{Verb}
 use Rattle.world_text.specs.declared.verbs.Verb.TheVariants as verb
-use Rattle.world_text.specs.Scripts.{name_at, entry_text, row_text, names_text, without_text, event_word, field_text, field_value_text, IsCalled, AreNamedOnce, AreLists, IsLineFirst}
+use Rattle.world_text.specs.GroupLines.{group_text}
+use Rattle.world_text.specs.NameLists.{name_at, names_text, part_text, IsCalled, AreNamedOnce}
+use Rattle.world_text.specs.Scripts.{entry_text, row_text, event_word, field_text, field_value_text, AreLists, IsLineFirst}
 use Rattle.world_text.specs.ScriptReading.{IsEntityNext, IsEntryNext, IsRowLast, AreEntityNames, IsKeptAs, IsViewLast, AreNamesLast, IsLineBehind}
 use Rattle.world_text.specs.Verbs.{word_of, plain_word, plain_command, entity_word, entity_command, entry_word, entry_command, row_word, row_command, names_word, names_command}
-use Rattle.world_text.proofs.NameListLemmas.{pools_called, pools_spelled}
+use Rattle.world_text.proofs.NameListLemmas.{pools_called, pools_spelled, part_called, part_once, part_spelled}
 
 -- ---- from the parts to the line
 
@@ -76,14 +78,15 @@ kept_nothing : IsKeptAs [] []
 kept_nothing = record { same = IsPermutation-refl []; ascending = IsNonDecreasingBy-short (λ x. x) [] (omega arith) }
 
 -- the components of an `all_of` or `any_of` line
-one_list : (decls : List Decl) (behind order pools rest : List ℕ) → IsKeptAs order pools → AreNamesLast decls [] behind order rest → AreLists decls pools []
+one_list : (decls : List Decl) (behind order pools rest : List ℕ) → IsKeptAs order pools → AreNamesLast decls behind order rest → AreLists decls pools []
 one_list decls behind order pools rest kept last =
-    kept_lists decls order [] pools [] kept kept_nothing (pools_called decls behind order (10 ∷ rest) last.names.next) (All-nil (IsCalled decls)) last.some
-    (omega (arith, last.names.few)) (subst AreNamedOnce (sym (append-nil order)) last.names.once)
+    let names = last.names.names in
+    kept_lists decls order [] pools [] kept kept_nothing (pools_called decls behind order (10 ∷ rest) names.next) (All-nil (IsCalled decls)) last.names.some
+    (omega (arith, last.few)) (subst AreNamedOnce (sym (append-nil order)) names.once)
 
 names_whole : (profile : Profile) (decls : List Decl) (text rest : List ℕ) (entity : Entity) (pools : List ℕ) → (h : AreEntityNames profile decls text entity pools rest) → text ≡ (32 ∷ (entity_text profile entity ++ names_text decls h.order)) ++ 10 ∷ rest
 names_whole profile decls text rest entity pools h =
-    h.first.whole ∙ ap (λ (t : List ℕ). 32 ∷ (entity_text profile entity ++ t)) (pools_spelled decls h.behind h.order (10 ∷ rest) h.names.names.next)
+    h.first.whole ∙ ap (λ (t : List ℕ). 32 ∷ (entity_text profile entity ++ t)) (pools_spelled decls h.behind h.order (10 ∷ rest) h.names.names.names.next)
     ∙ ap (λ (t : List ℕ). 32 ∷ t) (sym (append_assoc (entity_text profile entity) (names_text decls h.order) (10 ∷ rest)))
 
 names_first : (profile : Profile) (decls : List Decl) (text behind rest : List ℕ) (of : NamesVerb) (entity : Entity) (pools : List ℕ) → text ≡ names_word of ++ behind → AreEntityNames profile decls behind entity pools rest → IsLineFirst profile decls text (Run (names_command of entity pools)) rest
@@ -111,12 +114,13 @@ pair_whole a b rest = ap (λ (t : List ℕ). 32 ∷ t) (sym (append_assoc a (32 
 
 view_first : (profile : Profile) (decls : List Decl) (text behind rest : List ℕ) (all without : List ℕ) → text ≡ codes "view" ++ behind → IsViewLast decls behind all without rest → IsLineFirst profile decls text (Run (command.View all without)) rest
 view_first profile decls text behind rest all without e h = record {
-  is = kept_lists decls h.order h.excluded all without h.kept h.kept_out (pools_called decls behind h.order h.behind h.names.next) h.out.called h.some h.out.few h.out.once;
+  is = kept_lists decls h.order h.excluded all without h.kept h.kept_out (pools_called decls behind h.order h.behind h.names.names.next)
+      (part_called decls h.order (codes " not") h.behind h.excluded (10 ∷ rest) h.out) h.names.some h.few (part_once decls h.order (codes " not") h.behind h.excluded (10 ∷ rest) h.names.names.once h.out);
   written = Run (command.View h.order h.excluded);
   same = (command.View h.order h.excluded, (h.order, h.excluded, h.kept.same, h.kept_out.same, refl), refl);
-  spelled = spell (codes "view") (names_text decls h.order ++ without_text decls h.excluded) text behind rest e
-      (pools_spelled decls behind h.order h.behind h.names.next ∙ ap (λ (t : List ℕ). names_text decls h.order ++ t) h.out.whole
-      ∙ sym (append_assoc (names_text decls h.order) (without_text decls h.excluded) (10 ∷ rest)));
+  spelled = spell (codes "view") (names_text decls h.order ++ part_text (codes " not") decls h.excluded) text behind rest e
+      (pools_spelled decls behind h.order h.behind h.names.names.next ∙ ap (λ (t : List ℕ). names_text decls h.order ++ t) (part_spelled decls h.order (codes " not") h.behind h.excluded (10 ∷ rest) h.out)
+      ∙ sym (append_assoc (names_text decls h.order) (part_text (codes " not") decls h.excluded) (10 ∷ rest)));
 }
 
 -- a word and what stands behind it are a line
@@ -140,6 +144,32 @@ line_first profile decls text behind rest verb.Clear line e h = subst (λ (l : S
   spelled = spell (codes "clear") (32 ∷ name_at decls h.0) text behind rest e h.1.whole;
 })
 line_first profile decls text behind rest verb.View line e h = subst (λ (l : ScriptLine). IsLineFirst profile decls text l rest) (sym h.3) (view_first profile decls text behind rest h.0 h.1 e h.2)
+line_first profile decls text behind rest verb.Group line e h = subst (λ (l : ScriptLine). IsLineFirst profile decls text l rest) (sym h.2) (record {
+  is = h.1.is;
+  written = Run (command.Group h.1.written);
+  same = (command.Group h.1.written, (h.1.written, h.1.same, refl), refl);
+  spelled = spell (codes "group") (group_text decls h.1.written) text behind rest e h.1.spelled;
+})
+line_first profile decls text behind rest verb.Members line e h = subst (λ (l : ScriptLine). IsLineFirst profile decls text l rest) (sym h.2) (record {
+  is = h.1.within;
+  written = Run (command.Members h.0);
+  same = (command.Members h.0, refl, refl);
+  spelled = spell (codes "members") (32 ∷ decimal h.0) text behind rest e h.1.whole;
+})
+line_first profile decls text behind rest verb.Sort line e (inl h) = subst (λ (l : ScriptLine). IsLineFirst profile decls text l rest) (sym h.3) (record {
+  is = record { called = h.2.key.called; of_kind = h.2.key.of_kind };
+  written = Run (command.SortPool h.0 h.1);
+  same = (command.SortPool h.0 h.1, refl, refl);
+  spelled = spell (codes "sort") (codes " pool " ++ field_text decls h.0 h.1) text behind rest e (h.2.begins ∙ ap (λ (t : List ℕ). codes " pool" ++ t) h.2.key.whole);
+})
+line_first profile decls text behind rest verb.Sort line e (inr h) = subst (λ (l : ScriptLine). IsLineFirst profile decls text l rest) (sym h.4) (record {
+  is = (h.3.number.within, record { called = h.3.key.called; of_kind = h.3.key.of_kind });
+  written = Run (command.SortGroup h.0 h.1 h.2);
+  same = (command.SortGroup h.0 h.1 h.2, refl, refl);
+  spelled = spell (codes "sort") (codes " group " ++ (decimal h.0 ++ 32 ∷ field_text decls h.1 h.2)) text behind rest e
+      (h.3.begins ∙ ap (λ (t : List ℕ). codes " group" ++ t) (h.3.number.whole ∙ ap (λ (t : List ℕ). 32 ∷ (decimal h.0 ++ t)) h.3.key.whole)
+      ∙ ap (λ (t : List ℕ). codes " group " ++ t) (sym (append_assoc (decimal h.0) (32 ∷ field_text decls h.1 h.2) (10 ∷ rest))));
+})
 line_first profile decls text behind rest verb.Watch line e h = subst (λ (l : ScriptLine). IsLineFirst profile decls text l rest) (sym h.3) (record {
   is = h.2.called;
   written = Watch h.0 h.1;

@@ -1,8 +1,7 @@
 -- A script's line begins with its word, and behind that stands the rest of it.
-use Rattle.std.proofs.Common.{◌≡◌, ◌≢◌, inl, ℕ, ◌+◌, ◌<◌, ◌≤◌, true, if◌then◌else◌, List, [], ◌∷◌, ◌++◌, All, Option, Some, None, drop, length, codes, refl, sym, ap, subst, ◌∙◌, arith, append_assoc, IsPermutation}
+use Rattle.std.proofs.Common.{◌≡◌, ◌≢◌, inl, inr, ℕ, ◌+◌, ◌<◌, ◌≤◌, if◌then◌else◌, List, [], ◌∷◌, ◌++◌, All, Option, Some, None, length, codes, refl, sym, ap, subst, ◌∙◌, arith, append_assoc, IsPermutation}
 use Rattle.std.specs.Str.{bytes_eq}
 use Rattle.std.specs.Fmt.{decimal}
-use Rattle.std.proofs.lemmas.Bool.{false≢true}
 use Rattle.std.proofs.lemmas.List.Sorted.{All-permutation, IsPermutation-append, IsPermutation-refl, IsPermutation-sym, length_permutation, sum_by-IsPermutation}
 use Rattle.std.proofs.lemmas.Option.{same_Some}
 use Rattle.entity_id.specs.declared.entity.Profile.{Profile}
@@ -14,7 +13,6 @@ use Rattle.world_model.specs.declared.command.Command.TheVariants as command
 use Rattle.world_model.specs.declared.component.Decl.{Decl}
 use Rattle.world_model.specs.declared.component.Row.{Row}
 use Rattle.world_model.specs.Conditions.{MaySet}
-use Rattle.world_model.specs.Names.{is_name}
 use Rattle.world_text.specs.declared.script.ScriptLine.{ScriptLine}
 use Rattle.world_text.specs.declared.script.ScriptLine.TheVariants.{Run, Watch, Unwatch}
 use Rattle.world_text.specs.declared.verbs.EntityVerb.{EntityVerb}
@@ -29,11 +27,13 @@ use Rattle.world_text.specs.declared.verbs.RowVerb.{RowVerb}
 use Rattle.world_text.specs.declared.verbs.RowVerb.TheVariants as of_row
 use Rattle.world_text.specs.declared.verbs.Verb.{Verb}
 use Rattle.world_text.specs.declared.verbs.Verb.TheVariants as verb
-use Rattle.world_text.specs.Scripts.{name_at, entry_text, row_text, field_text, field_value_text, names_text, without_text, script_line_text, event_word, IsCalled, IsEntry, AreNamedOnce, AreLists, IsLineFirst}
-use Rattle.world_text.specs.ScriptReading.{EndsName, IsNameSplit, IsPoolNext, IsLineBehind}
+use Rattle.world_text.specs.GroupLines.{group_text}
+use Rattle.world_text.specs.NameLists.{name_at, names_text, part_text, IsCalled, AreNamedOnce}
+use Rattle.world_text.specs.Scripts.{entry_text, row_text, field_text, field_value_text, script_line_text, event_word, IsEntry, AreLists, IsLineFirst}
+use Rattle.world_text.specs.ScriptReading.{EndsName, IsNameSplit, IsLineBehind}
 use Rattle.world_text.specs.Verbs.{word_of, plain_word, plain_command, entity_word, entity_command, entry_word, entry_command, row_word, row_command, names_word, names_command}
-use Rattle.world_text.proofs.NameLemmas.{IsFree, name_free, same_name_split}
-use Rattle.world_text.proofs.NameListLemmas.{times-append, pools_of_text, end_is_no_name}
+use Rattle.world_text.proofs.NameLemmas.{IsFree, same_name_split}
+use Rattle.world_text.proofs.NameListLemmas.{times-append, pools_of_text, part_of_text, part_ends, part_is_no_name, end_is_no_name, end_is_no_not}
 use Rattle.world_text.proofs.RowCommandLemmas.{row_ends}
 use Rattle.world_text.proofs.ScriptLineLemmas.{field_whole, pair_whole}
 
@@ -138,8 +138,11 @@ split_names profile decls text rest of entity pools order is same e =
           behind = names_text decls order ++ 10 ∷ rest;
           first = record { of_profile = is.0; whole = ap (λ (t : List ℕ). 32 ∷ t) (append_assoc (entity_text profile entity) (names_text decls order) (10 ∷ rest)); ended = names_number decls order rest };
           names = record {
-            names = record { next = pools_of_text decls (names_text decls order ++ 10 ∷ rest) order (10 ∷ rest) lists.called refl refl; once = lists.once_all; few = omega (arith, lists.few); last = end_is_no_name decls rest };
-            some = lists.some;
+            names = record {
+              names = record { next = pools_of_text decls (names_text decls order ++ 10 ∷ rest) order (10 ∷ rest) lists.called refl refl; once = lists.once_all; last = end_is_no_name decls rest };
+              some = lists.some;
+            };
+            few = omega (arith, lists.few);
           };
           kept = record { same = same; ascending = is.1.kept.ascending };
         },
@@ -147,27 +150,12 @@ split_names profile decls text rest of entity pools order is same e =
       );
     }
 
--- the word `not` names no component
-not_is_no_name : (decls : List Decl) (t : List ℕ) → EndsName t → (pool : ℕ) (more : List ℕ) → IsPoolNext decls (codes " not" ++ t) pool more → ⊥
-not_is_no_name decls t ended pool more h =
-    let name = h.called.named.form in
-    let same = same_name_split (codes "not") (name_at decls pool) t more (refl, (refl, (refl, tt))) (name_free _ name) ended h.ended (ap (drop 1) h.whole) in
-    false≢true (subst (λ (n : List ℕ). is_name n ≡ true) (sym same.0) name)
-
-without_ends : (decls : List Decl) (excluded rest : List ℕ) → EndsName (without_text decls excluded ++ 10 ∷ rest)
-without_ends decls [] rest = refl
-without_ends decls (pool ∷ excluded) rest = refl
-
-without_is_no_name : (decls : List Decl) (excluded rest : List ℕ) → (pool : ℕ) (more : List ℕ) → IsPoolNext decls (without_text decls excluded ++ 10 ∷ rest) pool more → ⊥
-without_is_no_name decls [] rest pool more h = end_is_no_name decls rest pool more h
-without_is_no_name decls (p ∷ excluded) rest pool more h = not_is_no_name decls (names_text decls (p ∷ excluded) ++ 10 ∷ rest) refl pool more h
-
-split_view : (profile : Profile) (decls : List Decl) (text rest : List ℕ) (all without order excluded : List ℕ) → AreLists decls all without → IsPermutation order all → IsPermutation excluded without → text ≡ codes "view" ++ ((names_text decls order ++ without_text decls excluded) ++ 10 ∷ rest) → IsSplitLine profile decls text (Run (command.View all without)) rest
+split_view : (profile : Profile) (decls : List Decl) (text rest : List ℕ) (all without order excluded : List ℕ) → AreLists decls all without → IsPermutation order all → IsPermutation excluded without → text ≡ codes "view" ++ ((names_text decls order ++ part_text (codes " not") decls excluded) ++ 10 ∷ rest) → IsSplitLine profile decls text (Run (command.View all without)) rest
 split_view profile decls text rest all without order excluded is same same_out e =
     let lists = written_lists decls order excluded all without same same_out is in
-    let later = without_text decls excluded ++ 10 ∷ rest in
-    let behind = (names_text decls order ++ without_text decls excluded) ++ 10 ∷ rest in
-    let spelled : behind ≡ names_text decls order ++ later = append_assoc (names_text decls order) (without_text decls excluded) (10 ∷ rest) in
+    let later = part_text (codes " not") decls excluded ++ 10 ∷ rest in
+    let behind = (names_text decls order ++ part_text (codes " not") decls excluded) ++ 10 ∷ rest in
+    let spelled : behind ≡ names_text decls order ++ later = append_assoc (names_text decls order) (part_text (codes " not") decls excluded) (10 ∷ rest) in
     record {
       v = verb.View;
       behind = behind;
@@ -180,9 +168,12 @@ split_view profile decls text rest all without order excluded is same same_out e
           order = order;
           excluded = excluded;
           behind = later;
-          names = record { next = pools_of_text decls behind order later lists.called (without_ends decls excluded rest) spelled; once = lists.once_all; few = omega (arith, lists.few); last = without_is_no_name decls excluded rest };
-          some = lists.some;
-          out = record { called = lists.called_out; once = lists.once; few = lists.few; whole = refl };
+          names = record {
+            names = record { next = pools_of_text decls behind order later lists.called (part_ends decls (codes "not") excluded (10 ∷ rest) refl) spelled; once = lists.once_all; last = part_is_no_name decls (codes "not") excluded (10 ∷ rest) (refl, (refl, (refl, tt))) refl (end_is_no_name decls rest) };
+            some = lists.some;
+          };
+          out = part_of_text decls order (codes " not") later excluded (10 ∷ rest) lists.called_out lists.once refl (end_is_no_not rest) (end_is_no_name decls rest) refl;
+          few = lists.few;
           kept = record { same = same; ascending = is.kept.ascending };
           kept_out = record { same = same_out; ascending = is.kept_without.ascending };
         },
@@ -232,8 +223,51 @@ split_run profile decls text (command.Clear pool) rest h = record {
 }
 split_run profile decls text (command.View all without) rest h =
     let lists = h.same.1 in
-    split_view profile decls text rest all without lists.0 lists.1 h.is lists.2 lists.3 (unspell (codes "view") (names_text decls lists.0 ++ without_text decls lists.1) text rest (as_written profile decls text (Run (command.View all without)) (Run (command.View lists.0 lists.1)) rest h (h.same.2 ∙ ap Run lists.4)))
-split_run profile decls text _ rest h = absurd h.is
+    split_view profile decls text rest all without lists.0 lists.1 h.is lists.2 lists.3 (unspell (codes "view") (names_text decls lists.0 ++ part_text (codes " not") decls lists.1) text rest (as_written profile decls text (Run (command.View all without)) (Run (command.View lists.0 lists.1)) rest h (h.same.2 ∙ ap Run lists.4)))
+split_run profile decls text (command.Group group) rest h =
+    let order = h.same.1 in
+    record {
+      v = verb.Group;
+      behind = group_text decls order.0 ++ 10 ∷ rest;
+      whole = unspell (codes "group") (group_text decls order.0) text rest (as_written profile decls text (Run (command.Group group)) (Run (command.Group order.0)) rest h (h.same.2 ∙ ap Run order.2));
+      ended = refl;
+      left = (group, record { is = h.is; written = order.0; same = order.1; spelled = refl }, refl);
+    }
+split_run profile decls text (command.Members group) rest h = record {
+  v = verb.Members;
+  behind = 32 ∷ (decimal group ++ 10 ∷ rest);
+  whole = unspell (codes "members") (32 ∷ decimal group) text rest (as_written profile decls text (Run (command.Members group)) (Run (command.Members group)) rest h (h.same.2 ∙ ap Run h.same.1));
+  ended = refl;
+  left = (group, record { within = h.is; whole = refl; ended = inl (omega arith) }, refl);
+}
+split_run profile decls text (command.SortPool pool field) rest h = record {
+  v = verb.Sort;
+  behind = codes " pool " ++ (field_text decls pool field ++ 10 ∷ rest);
+  whole = unspell (codes "sort") (codes " pool " ++ field_text decls pool field) text rest (as_written profile decls text (Run (command.SortPool pool field)) (Run (command.SortPool pool field)) rest h (h.same.2 ∙ ap Run h.same.1));
+  ended = refl;
+  left = inl (pool, field, record { behind = 32 ∷ (field_text decls pool field ++ 10 ∷ rest); begins = refl; key = record { called = h.is.called; of_kind = h.is.of_kind; whole = refl; ended = refl } }, refl);
+}
+split_run profile decls text (command.SortGroup group pool field) rest h =
+    let later = 32 ∷ (field_text decls pool field ++ 10 ∷ rest) in
+    record {
+      v = verb.Sort;
+      behind = codes " group " ++ ((decimal group ++ 32 ∷ field_text decls pool field) ++ 10 ∷ rest);
+      whole = unspell (codes "sort") (codes " group " ++ (decimal group ++ 32 ∷ field_text decls pool field)) text rest (as_written profile decls text (Run (command.SortGroup group pool field)) (Run (command.SortGroup group pool field)) rest h (h.same.2 ∙ ap Run h.same.1));
+      ended = refl;
+      left = inr (
+        group,
+        pool,
+        field,
+        record {
+          behind = 32 ∷ (decimal group ++ later);
+          later = later;
+          begins = ap (λ (t : List ℕ). codes " group " ++ t) (append_assoc (decimal group) (32 ∷ field_text decls pool field) (10 ∷ rest));
+          number = record { within = h.is.0; whole = refl; ended = inl (omega arith) };
+          key = record { called = h.is.1.called; of_kind = h.is.1.of_kind; whole = refl; ended = refl };
+        },
+        refl,
+      );
+    }
 
 -- every line
 pub split_line : (profile : Profile) (decls : List Decl) (text : List ℕ) (line : ScriptLine) (rest : List ℕ) → IsLineFirst profile decls text line rest → IsSplitLine profile decls text line rest
@@ -250,7 +284,7 @@ split_line profile decls text (Unwatch number) rest h = record {
   behind = 32 ∷ (decimal number ++ 10 ∷ rest);
   whole = unspell (codes "unwatch") (32 ∷ decimal number) text rest (as_written profile decls text (Unwatch number) (Unwatch number) rest h h.same);
   ended = refl;
-  left = (number, record { within = h.is; whole = refl }, refl);
+  left = (number, record { within = h.is; whole = refl; ended = inl (omega arith) }, refl);
 }
 
 -- ---- which word it is
@@ -276,6 +310,9 @@ verb_in word =
     if bytes_eq word (codes "patch") then Some verb.Patch else
     if bytes_eq word (codes "clear") then Some verb.Clear else
     if bytes_eq word (codes "view") then Some verb.View else
+    if bytes_eq word (codes "group") then Some verb.Group else
+    if bytes_eq word (codes "members") then Some verb.Members else
+    if bytes_eq word (codes "sort") then Some verb.Sort else
     if bytes_eq word (codes "watch") then Some verb.Watch else
     if bytes_eq word (codes "unwatch") then Some verb.Unwatch else None
 
@@ -298,6 +335,9 @@ said (verb.OfNames of_names.AnyOf) = refl
 said verb.Patch = refl
 said verb.Clear = refl
 said verb.View = refl
+said verb.Group = refl
+said verb.Members = refl
+said verb.Sort = refl
 said verb.Watch = refl
 said verb.Unwatch = refl
 
@@ -324,6 +364,9 @@ word_free (verb.OfNames of_names.AnyOf) = (refl, (refl, (refl, (refl, (refl, (re
 word_free verb.Patch = (refl, (refl, (refl, (refl, (refl, tt)))))
 word_free verb.Clear = (refl, (refl, (refl, (refl, (refl, tt)))))
 word_free verb.View = (refl, (refl, (refl, (refl, tt))))
+word_free verb.Group = (refl, (refl, (refl, (refl, (refl, tt)))))
+word_free verb.Members = (refl, (refl, (refl, (refl, (refl, (refl, (refl, tt)))))))
+word_free verb.Sort = (refl, (refl, (refl, (refl, tt))))
 word_free verb.Watch = (refl, (refl, (refl, (refl, (refl, tt)))))
 word_free verb.Unwatch = (refl, (refl, (refl, (refl, (refl, (refl, (refl, tt)))))))
 

@@ -18,6 +18,7 @@ tag (line.Next index) = 5
 tag (line.Pool name) = 6
 tag (line.Row entity values) = 7
 tag line.End = 8
+tag (line.Group named) = 9
 
 -- the kind of line that begins with a word, and 0 where no line does
 abbrev pub tag_of_word : List ℕ → ℕ
@@ -30,7 +31,8 @@ tag_of_word word =
     if bytes_eq word (codes "next") then 5 else
     if bytes_eq word (codes "pool") then 6 else
     if bytes_eq word (codes "row") then 7 else
-    if bytes_eq word (codes "end") then 8 else 0
+    if bytes_eq word (codes "end") then 8 else
+    if bytes_eq word (codes "group") then 9 else 0
 
 -- what stands before the first space (32)
 abbrev pub first_word : List ℕ → List ℕ
@@ -48,6 +50,7 @@ tag_of_slot false rest = refl
 pub tag_of_line : (format : Format) (l : Line) → tag_of_text (line_text format l) ≡ tag l
 tag_of_line format line.Version = refl
 tag_of_line format (line.Component decl) = refl
+tag_of_line format (line.Group named) = refl
 tag_of_line format (line.Tick tick) = refl
 tag_of_line format (line.Slot slot) = tag_of_slot slot.live (decimal slot.version)
 tag_of_line format (line.Next index) = refl

@@ -61,6 +61,7 @@ a_document_without_an_end_is_not_ended = refl
 pub after_an_end_no_line_fits : (l : Line) → fits version_1 empty_lines l ≡ false
 after_an_end_no_line_fits line.Version = refl
 after_an_end_no_line_fits (line.Component decl) = refl
+after_an_end_no_line_fits (line.Group named) = refl
 after_an_end_no_line_fits (line.Tick tick) = refl
 after_an_end_no_line_fits (line.Slot slot) = refl
 after_an_end_no_line_fits (line.Next index) = refl

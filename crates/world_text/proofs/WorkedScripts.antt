@@ -15,21 +15,21 @@ use Rattle.world_text.specs.declared.script.ScriptLine.TheVariants.{Run, Watch, 
 use Rattle.world_text.specs.Playing.{scripted_text}
 use Rattle.world_text.specs.Scripts.{begun_text}
 
-abbrev id : ℕ → ℕ → Entity
+abbrev pub id : ℕ → ℕ → Entity
 id index version = record { index = index; version = version }
 
 -- a component of so many whole numbers
-abbrev ints : List ℕ → ℕ → Decl
+abbrev pub ints : List ℕ → ℕ → Decl
 ints name count = record { name = name; count = count; kinds = Int ∷ Int ∷ Int ∷ Int ∷ [] }
 
-abbrev row : ℕ → Row
+abbrev pub row : ℕ → Row
 row value = record { f = pos value ∷ pos 0 ∷ pos 0 ∷ pos 0 ∷ [] }
 
-abbrev live : Slot
+abbrev pub live : Slot
 live = record { version = 0; live = true }
 
 -- a document without rows
-abbrev of : List Decl → List Slot → Document
+abbrev pub of : List Decl → List Slot → Document
 of decls slots = record {
   world = record { profile = p20_12; decls = decls; groups = []; tick = 0; slots = slots; free = []; pools = replicate (length decls) [] };
 }
@@ -67,7 +67,7 @@ a_hint_is_met_or_creates = refl
 
 -- ---- watches
 
-abbrev four_components : Document
+abbrev pub four_components : Document
 four_components = of (ints (codes "position") 1 ∷ ints (codes "velocity") 1 ∷ ints (codes "health") 1 ∷ ints (codes "frozen") 0 ∷ []) (live ∷ live ∷ live ∷ [])
 
 abbrev watched_destruction : List ScriptLine

@@ -1,6 +1,7 @@
 -- Documents: which bytes stand for which world, where the first bad line of other bytes is, and the one canonical text.
 use Rattle.std.specs.Prelude.{◌≡◌, ◌≢◌, ℕ, ℤ, ◌+◌, ◌≤◌, Bool, true, false, not, ◌&&◌, List, [], ◌∷◌, ◌++◌, map, length, take}
 use Rattle.std.specs.List.{flat_map, list_any, AllByRecursion, zip}
+use Rattle.std.specs.List.Sorted.{IsNonDecreasing}
 use Rattle.entity_id.specs.declared.entity.Profile.{Profile}
 use Rattle.entity_id.specs.declared.entity.Entity.{Entity}
 use Rattle.entity_id.specs.Fields.{entity_in}
@@ -8,6 +9,7 @@ use Rattle.world_model.specs.declared.component.Decl.{Decl}
 use Rattle.world_model.specs.declared.component.Kind.{Kind}
 use Rattle.world_model.specs.declared.component.Kind.TheVariants as kind
 use Rattle.world_model.specs.declared.component.Row.{Row}
+use Rattle.world_model.specs.declared.group.GroupDecl.{GroupDecl}
 use Rattle.world_model.specs.declared.world.World.{World}
 use Rattle.world_model.specs.Components.{kinds_of, has_name}
 use Rattle.world_model.specs.Worlds.{component_limit, IsLawful}
@@ -16,10 +18,11 @@ use Rattle.world_text.specs.declared.section.Section.TheVariants as section
 use Rattle.world_text.specs.declared.document.Document.{Document}
 use Rattle.world_text.specs.FieldValues.{FieldValue}
 use Rattle.world_text.specs.FieldValues as value
-use Rattle.world_text.specs.LineKinds.{Line}
+use Rattle.world_text.specs.LineKinds.{Line, NamedGroup}
 use Rattle.world_text.specs.LineKinds as line
 use Rattle.world_text.specs.Formats.{tick_limit, version_1}
 use Rattle.world_text.specs.Lines.{IsLine, IsNamedDecl, line_text, text_of}
+use Rattle.world_text.specs.NameLists.{name_at}
 use Rattle.world_text.specs.Meaning.{world_of}
 use Rattle.world_text.specs.Fitting.{last_section, fits, fit_after}
 
@@ -90,13 +93,19 @@ pub record AreNamedDecls (decls : List Decl) : Type 0 where
   pub each : AllByRecursion IsNamedDecl decls
   pub apart : are_named_apart decls ≡ true
 
--- a lawful document of this format: a lawful world of its profile without groups, with a tick number within the limit, whose
--- components have names of the form of names, no two the same
+-- each list of a group is in ascending number
+pub record HasAscendingLists (decl : GroupDecl) : Type 0 where
+  pub own : IsNonDecreasing decl.own
+  pub get : IsNonDecreasing decl.get
+  pub without : IsNonDecreasing decl.without
+
+-- a lawful document of this format: a lawful world of its profile, with a tick number within the limit, whose groups have ascending
+-- lists, and whose components have names of the form of names, no two the same
 pub record IsLawfulDocumentOf (format : Format) (document : Document) : Type 0 where
   pub world : IsLawful format.slot_limit document.world
   pub profile : document.world.profile ≡ format.profile
   pub tick : document.world.tick ≤ tick_limit
-  pub no_groups : document.world.groups ≡ []
+  pub ascending : AllByRecursion HasAscendingLists document.world.groups
   pub named : AreNamedDecls document.world.decls
 
 -- a lawful document
@@ -114,6 +123,18 @@ value_in profile kind.Ref field = value.Ref (entity_in profile field)
 abbrev pub values_in : Profile → Decl → Row → List FieldValue
 values_in profile decl row = map (λ pair. value_in profile pair.0 pair.1) (zip (kinds_of decl) (take decl.count row.f))
 
+-- a group with the names of its components
+abbrev pub named_of : List Decl → GroupDecl → NamedGroup
+named_of decls decl = record {
+  own = map (name_at decls) decl.own;
+  get = map (name_at decls) decl.get;
+  without = map (name_at decls) decl.without;
+}
+
+-- the line of a group
+abbrev pub group_line : List Decl → GroupDecl → Line
+group_line decls decl = line.Group (named_of decls decl)
+
 -- the line of a row
 abbrev pub row_line : Profile → Decl → Entity × Row → Line
 row_line profile decl entry = line.Row entry.0 (values_in profile decl entry.1)
@@ -127,11 +148,12 @@ abbrev pub lines_of : World → List Line
 lines_of world =
     line.Version
     ∷ (map line.Component world.decls
+    ++ (map (group_line world.decls) world.groups
     ++ (line.Tick world.tick
     ∷ (map line.Slot world.slots
     ++ (map line.Next world.free
     ++ (flat_map (pool_lines world.profile) (zip world.decls world.pools)
-    ++ line.End ∷ [])))))
+    ++ line.End ∷ []))))))
 
 -- the one canonical text of a document
 abbrev pub text : Document → List ℕ

@@ -3,21 +3,23 @@ use Rattle.std.specs.Prelude.{◌≡◌, ℕ, ◌-◌, Bool, true, false, List, 
 use Rattle.std.specs.Option.{option_map_or}
 use Rattle.entity_id.specs.declared.entity.Entity.{Entity}
 use Rattle.world_model.specs.declared.component.Row.{Row}
+use Rattle.world_model.specs.declared.group.GroupDecl.{GroupDecl}
 use Rattle.world_model.specs.Components.{kinds_of}
 use Rattle.world_text.specs.FieldValues.{FieldValue}
 use Rattle.world_text.specs.LineKinds as line
 use Rattle.std.specs.List.{flat_map}
 use Rattle.world_model.specs.declared.world.World.{World}
-use Rattle.world_text.specs.LineKinds.{Line}
+use Rattle.world_text.specs.LineKinds.{Line, NamedGroup}
 use Rattle.world_text.specs.declared.draft.Draft.{Draft}
 use Rattle.world_text.specs.Lines.{IsLine, line_text}
-use Rattle.world_text.specs.Meaning.{decl_in, tick_in, slot_in, next_in, row_of, pools_in, settled}
-use Rattle.world_text.specs.Fitting.{are_of_kinds, last_section, fits}
+use Rattle.world_text.specs.Meaning.{decl_in, groups_in, group_of, tick_in, slot_in, next_in, row_of, pools_in, settled}
+use Rattle.world_text.specs.Fitting.{are_listed, are_of_kinds, last_section, fits}
 
 -- the draft after these lines
 pub record Stands (draft : Draft) (lines : List Line) : Type 0 where
   pub section : draft.section ≡ last_section lines
   pub decls : draft.decls.items ≡ flat_map decl_in lines
+  pub groups : draft.groups.items ≡ groups_in lines
   pub tick : draft.tick ≡ slice_index_or (flat_map tick_in lines) 0 0
   pub slots : draft.slots.items ≡ flat_map slot_in lines
   pub free : draft.free.items ≡ flat_map next_in lines
@@ -33,6 +35,15 @@ pub record Takes (old : Draft) (line : Line) (new : Draft) : Type 0 where
 -- a line doesn't fit, whichever lines the draft stands for
 abbrev pub Refuses : Draft → Line → Type 0
 Refuses draft line = (before : List Line) → Stands draft before → fits draft.format before line ≡ false
+
+-- a group is added, whichever names it has in its line
+abbrev pub TakesGroup : Draft → GroupDecl → Draft → Type 0
+TakesGroup old decl new =
+    (named : NamedGroup) → decl ≡ group_of old.decls.items named → are_listed old.decls.items named ≡ true → Takes old (line.Group named) new
+
+-- no line of this group fits
+abbrev pub RefusesGroup : Draft → GroupDecl → Type 0
+RefusesGroup draft decl = (named : NamedGroup) → decl ≡ group_of draft.decls.items named → Refuses draft (line.Group named)
 
 -- whether values are of the kinds of the last pool's component
 abbrev pub are_of_last_kinds : Draft → List FieldValue → Bool
@@ -64,7 +75,7 @@ abbrev pub world_in : Draft → World
 world_in draft = record {
   profile = draft.format.profile;
   decls = draft.decls.items;
-  groups = [];
+  groups = draft.groups.items;
   tick = draft.tick;
   slots = draft.slots.items;
   free = draft.free.items;

@@ -2,13 +2,16 @@
 use Rattle.std.specs.Prelude.{ℕ, ◌-◌, Bool, true, false, ◌&&◌, not, List, [], ◌∷◌, ◌++◌, length, slice_get, nat_lt, ◌==◌}
 use Rattle.std.specs.List.{flat_map, list_any, list_all, zip}
 use Rattle.std.specs.Option.{option_map_or}
+use Rattle.std.specs.Str.{bytes_eq}
 use Rattle.entity_id.specs.declared.entity.Entity.{Entity}
 use Rattle.world_model.specs.declared.component.Decl.{Decl}
 use Rattle.world_model.specs.declared.component.Kind.{Kind}
 use Rattle.world_model.specs.declared.component.Kind.TheVariants as kind
 use Rattle.world_model.specs.declared.component.Row.{Row}
+use Rattle.world_model.specs.declared.group.GroupDecl.{GroupDecl}
 use Rattle.world_model.specs.declared.slot.Slot.{Slot}
 use Rattle.world_model.specs.Components.{kinds_of, has_name}
+use Rattle.world_model.specs.Groups.{group_limit, is_well_formed, may_coexist}
 use Rattle.world_model.specs.Slots.{is_live, is_free_at}
 use Rattle.world_model.specs.Worlds.{component_limit}
 use Rattle.world_text.specs.declared.format.Format.{Format}
@@ -16,15 +19,16 @@ use Rattle.world_text.specs.declared.section.Section.{Section}
 use Rattle.world_text.specs.declared.section.Section.TheVariants as section
 use Rattle.world_text.specs.FieldValues.{FieldValue}
 use Rattle.world_text.specs.FieldValues as value
-use Rattle.world_text.specs.LineKinds.{Line}
+use Rattle.world_text.specs.LineKinds.{Line, NamedGroup}
 use Rattle.world_text.specs.LineKinds as line
 use Rattle.world_text.specs.Sections.{is_between, later}
-use Rattle.world_text.specs.Meaning.{decl_in, slot_in, next_in, pools_in, settled}
+use Rattle.world_text.specs.Meaning.{decl_in, groups_in, group_of, slot_in, next_in, pools_in, settled}
 
 -- the part of the document that a line belongs to
 abbrev pub section_of : Line → Section
 section_of line.Version = section.Version
 section_of (line.Component decl) = section.Components
+section_of (line.Group named) = section.Groups
 section_of (line.Tick tick) = section.Tick
 section_of (line.Slot slot) = section.Slots
 section_of (line.Next index) = section.FreeList
@@ -36,6 +40,23 @@ section_of line.End = section.End
 abbrev pub last_section : List Line → Section
 last_section [] = section.Start
 last_section (l ∷ lines) = later (section_of l) (last_section lines)
+
+-- whether no name stands twice
+abbrev pub are_different : List (List ℕ) → Bool
+are_different [] = true
+are_different (name ∷ names) = not (list_any (bytes_eq name) names) && are_different names
+
+-- whether names are those of components, none twice
+abbrev pub are_of_components : List Decl → List (List ℕ) → Bool
+are_of_components decls names = list_all (λ name. list_any (has_name name) decls) names && are_different names
+
+-- whether each list of a group line names components, none twice within the list
+abbrev pub are_listed : List Decl → NamedGroup → Bool
+are_listed decls named = are_of_components decls named.own && are_of_components decls named.get && are_of_components decls named.without
+
+-- whether a group is well-formed and may be added to these: they are fewer than the limit, and it may stand beside each
+abbrev pub may_join : List GroupDecl → GroupDecl → Bool
+may_join groups decl = is_well_formed decl && (nat_lt (length groups) group_limit && list_all (may_coexist decl) groups)
 
 -- whether an index is to go on the free list: its slot is there and free, and it isn't on the list
 abbrev pub is_unlisted : List Slot → List ℕ → ℕ → Bool
@@ -72,7 +93,10 @@ fits format before line.Version = is_between section.Start section.Start (last_s
 fits format before (line.Component decl) =
     is_between section.Version section.Components (last_section before)
     && (nat_lt (length (flat_map decl_in before)) component_limit && not (list_any (has_name decl.name) (flat_map decl_in before)))
-fits format before (line.Tick tick) = is_between section.Version section.Components (last_section before)
+fits format before (line.Group named) =
+    is_between section.Version section.Groups (last_section before)
+    && (are_listed (flat_map decl_in before) named && may_join (groups_in before) (group_of (flat_map decl_in before) named))
+fits format before (line.Tick tick) = is_between section.Version section.Groups (last_section before)
 fits format before (line.Slot slot) =
     is_between section.Tick section.Slots (last_section before) && nat_lt (length (flat_map slot_in before)) format.slot_limit
 fits format before (line.Next index) =

@@ -8,6 +8,8 @@ pub mod Fitting
 pub mod Documents
 pub mod Reading
 pub mod Drafts
+pub mod NameLists
+pub mod GroupLines
 pub mod Replies
 pub mod Scripts
 pub mod Playing

@@ -5,10 +5,18 @@ use Rattle.world_model.specs.declared.component.Decl.{Decl}
 use Rattle.world_model.specs.declared.slot.Slot as slots
 use Rattle.world_text.specs.FieldValues.{FieldValue}
 
--- `world V`, `component NAME KIND ..`, `tick T`, `live V` or `free V`, `next I`, `pool NAME`, `row ENTITY VALUE ..` and `end`
+-- the names in the three lists of a group line, each list in the order in which it is written
+pub record NamedGroup : Type 0 where
+  pub own : List (List ℕ)
+  pub get : List (List ℕ)
+  pub without : List (List ℕ)
+
+-- `world V`, `component NAME KIND ..`, `group own NAMES` with its further lists, `tick T`, `live V` or `free V`, `next I`, `pool NAME`,
+-- `row ENTITY VALUE ..` and `end`
 pub data Line : Type 0 where
   Version : Line
   Component : Decl → Line
+  Group : NamedGroup → Line
   Tick : ℕ → Line
   Slot : slots.Slot → Line
   Next : ℕ → Line

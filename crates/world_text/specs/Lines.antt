@@ -16,7 +16,7 @@ use Rattle.world_text.specs.declared.format.Format.{Format}
 use Rattle.world_text.specs.Formats.{tick_limit}
 use Rattle.world_text.specs.FieldValues.{FieldValue}
 use Rattle.world_text.specs.FieldValues as value
-use Rattle.world_text.specs.LineKinds.{Line}
+use Rattle.world_text.specs.LineKinds.{Line, NamedGroup}
 use Rattle.world_text.specs.LineKinds as line
 
 -- ---- spelling
@@ -39,10 +39,25 @@ values_text profile values = flat_map (λ v. 32 ∷ value_text profile v) values
 abbrev pub decl_text : Decl → List ℕ
 decl_text decl = decl.name ++ flat_map kind_text (kinds_of decl)
 
+-- names, each behind a space
+abbrev pub spaced_names : List (List ℕ) → List ℕ
+spaced_names names = flat_map (λ name. 32 ∷ name) names
+
+-- names behind a word: nothing where there are none
+abbrev pub names_behind : List ℕ → List (List ℕ) → List ℕ
+names_behind word [] = []
+names_behind word (name ∷ names) = word ++ spaced_names (name ∷ names)
+
+-- what a group line says: the names that it owns, and behind their words those that it observes and those that it excludes
+abbrev pub lists_text : NamedGroup → List ℕ
+lists_text named =
+    codes " own" ++ (spaced_names named.own ++ (names_behind (codes " get") named.get ++ names_behind (codes " not") named.without))
+
 -- a line without its end
 abbrev pub line_text : Format → Line → List ℕ
 line_text format line.Version = codes "world " ++ decimal format.version
 line_text format (line.Component decl) = codes "component " ++ decl_text decl
+line_text format (line.Group named) = codes "group" ++ lists_text named
 line_text format (line.Tick tick) = codes "tick " ++ decimal tick
 line_text format (line.Slot slot) = (if slot.live then codes "live " else codes "free ") ++ decimal slot.version
 line_text format (line.Next index) = codes "next " ++ decimal index
@@ -56,8 +71,9 @@ text_of format lines = flat_map (λ l. line_text format l ++ 10 ∷ []) lines
 
 -- ---- which lines there are
 
--- The limit of 4,096 bytes for a line refuses none of these: in version 1 the longest is a row of 100 bytes. Nor does it refuse a line of
--- a script: the longest is an `all_of` or `any_of` line of 547 bytes, with 16 names of 32 bytes.
+-- The limit of 4,096 bytes for a line refuses none of these that fits: the longest in version 1 is a group line of 281 bytes, with 8 names
+-- of 32 bytes. Of the lines of a script it refuses long group lines alone, which may name every component in each list (`GroupLines.antt`);
+-- of the others the longest is an `all_of` or `any_of` line of 547 bytes, with 16 names of 32 bytes.
 
 -- a component with at most 4 fields, and a name of the form of a name
 pub record IsNamedDecl (decl : Decl) : Type 0 where
@@ -69,6 +85,13 @@ abbrev pub IsValue : Profile → FieldValue → Type 0
 IsValue profile (value.Int number) = IsI64 number
 IsValue profile (value.Ref entity) = IsTrue (is_target profile entity)
 
+-- names of the form of names, of which one or more are owned
+pub record IsNamedGroup (named : NamedGroup) : Type 0 where
+  pub own : AllByRecursion (λ name. is_name name ≡ true) named.own
+  pub get : AllByRecursion (λ name. is_name name ≡ true) named.get
+  pub without : AllByRecursion (λ name. is_name name ≡ true) named.without
+  pub some : 0 < length named.own
+
 -- the row of an identifier of the profile, with at most 4 values
 pub record IsRowLine (format : Format) (entity : Entity) (values : List FieldValue) : Type 0 where
   pub of_profile : IsOfProfile format.profile entity
@@ -79,6 +102,7 @@ pub record IsRowLine (format : Format) (entity : Entity) (values : List FieldVal
 abbrev pub IsLine : Format → Line → Type 0
 IsLine format line.Version = Unit {0}
 IsLine format (line.Component decl) = IsNamedDecl decl
+IsLine format (line.Group named) = IsNamedGroup named
 IsLine format (line.Tick tick) = tick ≤ tick_limit
 IsLine format (line.Slot slot) = slot.version < format.profile.version_limit
 IsLine format (line.Next index) = index < format.slot_limit

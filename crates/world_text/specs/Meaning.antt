@@ -1,23 +1,47 @@
 -- What lines stand for: the world of a document, part by part.
 use Rattle.std.specs.Prelude.{ℕ, ◌-◌, ◌||◌, Bool, ℤ, pos, List, [], ◌∷◌, ◌++◌, map, length, replicate, slice_index_or, suc, ◌==◌}
-use Rattle.std.specs.List.{flat_map, list_any}
+use Rattle.std.specs.List.{flat_map, list_any, filter, range_with_len}
+use Rattle.std.specs.Str.{bytes_eq}
 use Rattle.entity_id.specs.declared.entity.Profile.{Profile}
 use Rattle.entity_id.specs.declared.entity.Entity.{Entity}
 use Rattle.entity_id.specs.Fields.{field_of}
 use Rattle.world_model.specs.declared.component.Decl.{Decl}
 use Rattle.world_model.specs.declared.component.Row.{Row}
+use Rattle.world_model.specs.declared.group.GroupDecl.{GroupDecl}
 use Rattle.world_model.specs.declared.slot.Slot.{Slot}
 use Rattle.world_model.specs.declared.world.World.{World}
 use Rattle.world_text.specs.declared.format.Format.{Format}
 use Rattle.world_text.specs.FieldValues.{FieldValue}
 use Rattle.world_text.specs.FieldValues as value
-use Rattle.world_text.specs.LineKinds.{Line}
+use Rattle.world_text.specs.LineKinds.{Line, NamedGroup}
 use Rattle.world_text.specs.LineKinds as line
+use Rattle.world_text.specs.NameLists.{name_at}
 
 -- the component that a line declares
 abbrev pub decl_in : Line → List Decl
 decl_in (line.Component decl) = decl ∷ []
 decl_in _ = []
+
+-- the names in a group line
+abbrev pub group_in : Line → List NamedGroup
+group_in (line.Group named) = named ∷ []
+group_in _ = []
+
+-- the components that have one of these names, in ascending number
+abbrev pub pools_named : List Decl → List (List ℕ) → List ℕ
+pools_named decls names = filter (λ pool. list_any (bytes_eq (name_at decls pool)) names) (range_with_len 0 (length decls))
+
+-- the group of components that have these names
+abbrev pub group_of : List Decl → NamedGroup → GroupDecl
+group_of decls named = record {
+  own = pools_named decls named.own;
+  get = pools_named decls named.get;
+  without = pools_named decls named.without;
+}
+
+-- the groups that lines declare
+abbrev pub groups_in : List Line → List GroupDecl
+groups_in lines = map (group_of (flat_map decl_in lines)) (flat_map group_in lines)
 
 -- the tick number in a line
 abbrev pub tick_in : Line → List ℕ
@@ -61,7 +85,7 @@ abbrev pub world_of : Format → List Line → World
 world_of format lines = record {
   profile = format.profile;
   decls = flat_map decl_in lines;
-  groups = [];
+  groups = groups_in lines;
   tick = slice_index_or (flat_map tick_in lines) 0 0;
   slots = flat_map slot_in lines;
   free = flat_map next_in lines;

@@ -1,5 +1,5 @@
--- What readers of parts of a script's line say.
-use Rattle.std.specs.Prelude.{◌≡◌, ℕ, ℤ, ◌+◌, ◌<◌, ◌≤◌, Bool, true, false, ◌||◌, ◌==◌, nat_le, List, [], ◌∷◌, ◌++◌, length, Some, All, IsPermutation}
+-- What readers of parts of a script's line say, and those of a group's line in a document.
+use Rattle.std.specs.Prelude.{◌≡◌, ◌≢◌, ◌⊎◌, ℕ, ℤ, ◌+◌, ◌<◌, ◌≤◌, Bool, true, false, ◌||◌, ◌==◌, List, [], ◌∷◌, ◌++◌, length, codes, Some, IsPermutation}
 use Rattle.std.specs.List.{AllByRecursion, list_any}
 use Rattle.std.specs.List.Sorted.{IsNonDecreasing}
 use Rattle.std.specs.Fmt.{decimal}
@@ -10,14 +10,18 @@ use Rattle.entity_id.specs.Texts.{entity_text, EndsNumber}
 use Rattle.world_model.specs.declared.command.Command.TheVariants as command
 use Rattle.world_model.specs.declared.component.Decl.{Decl}
 use Rattle.world_model.specs.declared.component.Kind.{Kind}
+use Rattle.world_model.specs.declared.component.Kind.TheVariants.{Int}
 use Rattle.world_model.specs.declared.component.Row.{Row}
 use Rattle.world_model.specs.declared.event.EventKind.{EventKind}
+use Rattle.world_model.specs.declared.group.GroupDecl.{GroupDecl}
 use Rattle.world_model.specs.Conditions.{MaySet, MaySetField, view_limit}
 use Rattle.world_text.specs.declared.script.ScriptLine.{ScriptLine}
 use Rattle.world_text.specs.declared.script.ScriptLine.TheVariants.{Run, Watch, Unwatch}
 use Rattle.world_text.specs.declared.verbs.Verb.{Verb}
 use Rattle.world_text.specs.declared.verbs.Verb.TheVariants as verb
-use Rattle.world_text.specs.Scripts.{name_at, entry_text, row_text, field_text, field_value_text, without_text, event_word, unwatch_limit, kind_at, IsCalled, IsEntry, AreNamedOnce}
+use Rattle.world_text.specs.GroupLines.{IsGroupFirst}
+use Rattle.world_text.specs.NameLists.{name_at, IsCalled, AreNamedOnce}
+use Rattle.world_text.specs.Scripts.{entry_text, row_text, field_text, field_value_text, event_word, number_limit, kind_at, IsEntry}
 use Rattle.world_text.specs.Verbs.{plain_command, entity_command, entry_command, row_command, names_command}
 
 -- whether a name ends before this byte: a space (32), or a line end (10)
@@ -66,36 +70,43 @@ pub record IsFieldNext (decls : List Decl) (text : List ℕ) (pool field : ℕ) 
   pub whole : text ≡ 32 ∷ (field_text decls pool field ++ rest)
   pub ended : EndsName rest
 
+-- a text begins with a space and the number of a watch or of a group, and this is the rest, which begins with no digit
+pub record IsNumberNext (text : List ℕ) (number : ℕ) (rest : List ℕ) : Type 0 where
+  pub within : number ≤ number_limit
+  pub whole : text ≡ 32 ∷ (decimal number ++ rest)
+  pub ended : EndsNumber rest
+
 -- ---- names of components
 
--- whether a further component is one of those that were named, or is one too many
-abbrev pub is_over : List ℕ → List ℕ → ℕ → Bool
-is_over others pools pool =
-    nat_le view_limit (length others + length pools) || list_any (λ other. other == pool) others || list_any (λ other. other == pool) pools
+-- whether a component is one of those that were named, or of these others
+abbrev pub is_named : List ℕ → List ℕ → ℕ → Bool
+is_named others pools pool = list_any (λ other. other == pool) others || list_any (λ other. other == pool) pools
 
 -- a text begins with the names of these components, in this order, each behind a space, and this is the rest
 abbrev pub ArePoolsNext : List Decl → List ℕ → List ℕ → List ℕ → Type 0
 ArePoolsNext decls text [] rest = text ≡ rest
 ArePoolsNext decls text (pool ∷ pools) rest = (behind : List ℕ) × IsPoolNext decls text pool behind × ArePoolsNext decls behind pools rest
 
--- the same, and no further name follows; none is named twice, also not beside these others, and all of them are not more than the limit
+-- the same, and no further name follows; none is named twice, also not beside these others
 pub record AreNamesNext (decls : List Decl) (others : List ℕ) (text : List ℕ) (pools rest : List ℕ) : Type 0 where
   pub next : ArePoolsNext decls text pools rest
   pub once : AreNamedOnce (others ++ pools)
-  pub few : length others + length pools ≤ view_limit
   pub last : (pool : ℕ) (more : List ℕ) → IsPoolNext decls rest pool more → ⊥
 
--- the same, one name or more, up to the end of the line
-pub record AreNamesLast (decls : List Decl) (others : List ℕ) (text : List ℕ) (pools rest : List ℕ) : Type 0 where
-  pub names : AreNamesNext decls others text pools (10 ∷ rest)
+-- the same, one name or more
+pub record AreSomeNext (decls : List Decl) (others : List ℕ) (text : List ℕ) (pools rest : List ℕ) : Type 0 where
+  pub names : AreNamesNext decls others text pools rest
   pub some : 0 < length pools
 
--- what a view leaves out, up to the end of its line, beside these others
-pub record IsWithoutLast (decls : List Decl) (others : List ℕ) (text : List ℕ) (pools rest : List ℕ) : Type 0 where
-  pub called : All (IsCalled decls) pools
-  pub once : AreNamedOnce (others ++ pools)
-  pub few : length others + length pools ≤ view_limit
-  pub whole : text ≡ without_text decls pools ++ 10 ∷ rest
+-- the same without others, not more than the limit, up to the end of the line
+pub record AreNamesLast (decls : List Decl) (text : List ℕ) (pools rest : List ℕ) : Type 0 where
+  pub names : AreSomeNext decls [] text pools (10 ∷ rest)
+  pub few : length pools ≤ view_limit
+
+-- a part that may be left out: where a text begins with the word, one name or more behind it; where it doesn't, nothing
+abbrev pub IsPartNext : List Decl → List ℕ → List ℕ → List ℕ → List ℕ → List ℕ → Type 0
+IsPartNext decls others word text [] rest = (text ≡ rest) × ((more : List ℕ) → text ≢ word ++ more)
+IsPartNext decls others word text (pool ∷ pools) rest = (behind : List ℕ) × (text ≡ word ++ behind) × AreNamesNext decls others behind (pool ∷ pools) rest
 
 -- a list is kept in ascending number
 pub record IsKeptAs (order pools : List ℕ) : Type 0 where
@@ -114,7 +125,7 @@ pub record AreEntityNames (profile : Profile) (decls : List Decl) (text : List �
   pub order : List ℕ
   pub behind : List ℕ
   pub first : IsEntityNext profile text entity behind
-  pub names : AreNamesLast decls [] behind order rest
+  pub names : AreNamesLast decls behind order rest
   pub kept : IsKeptAs order pools
 
 -- an identifier, a field of a component and a value of it
@@ -128,21 +139,48 @@ pub record IsViewLast (decls : List Decl) (text : List ℕ) (all without rest : 
   pub order : List ℕ
   pub excluded : List ℕ
   pub behind : List ℕ
-  pub names : AreNamesNext decls [] text order behind
-  pub some : 0 < length order
-  pub out : IsWithoutLast decls order behind excluded rest
+  pub names : AreSomeNext decls [] text order behind
+  pub out : IsPartNext decls order (codes " not") behind excluded (10 ∷ rest)
+  pub few : length order + length excluded ≤ view_limit
   pub kept : IsKeptAs order all
   pub kept_out : IsKeptAs excluded without
+
+-- the three lists of a group, in the order as written, as far as they go
+pub record AreGroupLists (decls : List Decl) (text : List ℕ) (written : GroupDecl) (rest : List ℕ) : Type 0 where
+  pub of_own : List ℕ
+  pub behind_own : List ℕ
+  pub behind_get : List ℕ
+  pub begins : text ≡ codes " own" ++ of_own
+  pub own : AreSomeNext decls [] of_own written.own behind_own
+  pub get : IsPartNext decls [] (codes " get") behind_own written.get behind_get
+  pub without : IsPartNext decls [] (codes " not") behind_get written.without rest
+
+-- a group of such lists
+pub record IsGroupNext (decls : List Decl) (text : List ℕ) (group : GroupDecl) (rest : List ℕ) : Type 0 where
+  pub written : GroupDecl
+  pub lists : AreGroupLists decls text written rest
+  pub own : IsKeptAs written.own group.own
+  pub get : IsKeptAs written.get group.get
+  pub without : IsKeptAs written.without group.without
 
 -- a kind of events and a component
 pub record IsWatchLast (decls : List Decl) (text : List ℕ) (kind : EventKind) (pool : ℕ) (rest : List ℕ) : Type 0 where
   pub called : IsCalled decls pool
   pub whole : text ≡ 32 ∷ (event_word kind ++ 32 ∷ (name_at decls pool ++ 10 ∷ rest))
 
--- the number of a watch
-pub record IsNumberLast (text : List ℕ) (number : ℕ) (rest : List ℕ) : Type 0 where
-  pub within : number ≤ unwatch_limit
-  pub whole : text ≡ 32 ∷ (decimal number ++ 10 ∷ rest)
+-- the word `pool` and an `int` field
+pub record IsPoolSort (decls : List Decl) (text : List ℕ) (pool field : ℕ) (rest : List ℕ) : Type 0 where
+  pub behind : List ℕ
+  pub begins : text ≡ codes " pool" ++ behind
+  pub key : IsFieldNext decls behind pool field Int (10 ∷ rest)
+
+-- the word `group`, the number of a group and an `int` field
+pub record IsGroupSort (decls : List Decl) (text : List ℕ) (group pool field : ℕ) (rest : List ℕ) : Type 0 where
+  pub behind : List ℕ
+  pub later : List ℕ
+  pub begins : text ≡ codes " group" ++ behind
+  pub number : IsNumberNext behind group later
+  pub key : IsFieldNext decls later pool field Int (10 ∷ rest)
 
 -- what stands behind a word is the rest of this line, and this stands behind it
 abbrev pub IsLineBehind : Profile → List Decl → Verb → List ℕ → ScriptLine → List ℕ → Type 0
@@ -161,5 +199,10 @@ IsLineBehind profile decls verb.Patch text line rest =
 IsLineBehind profile decls verb.Clear text line rest = (pool : ℕ) × IsPoolNext decls text pool (10 ∷ rest) × (line ≡ Run (command.Clear pool))
 IsLineBehind profile decls verb.View text line rest =
     (all : List ℕ) × (without : List ℕ) × IsViewLast decls text all without rest × (line ≡ Run (command.View all without))
+IsLineBehind profile decls verb.Group text line rest = (group : GroupDecl) × IsGroupFirst decls text group rest × (line ≡ Run (command.Group group))
+IsLineBehind profile decls verb.Members text line rest = (group : ℕ) × IsNumberNext text group (10 ∷ rest) × (line ≡ Run (command.Members group))
+IsLineBehind profile decls verb.Sort text line rest =
+    ((pool : ℕ) × (field : ℕ) × IsPoolSort decls text pool field rest × (line ≡ Run (command.SortPool pool field)))
+    ⊎ ((group : ℕ) × (pool : ℕ) × (field : ℕ) × IsGroupSort decls text group pool field rest × (line ≡ Run (command.SortGroup group pool field)))
 IsLineBehind profile decls verb.Watch text line rest = (kind : EventKind) × (pool : ℕ) × IsWatchLast decls text kind pool rest × (line ≡ Watch kind pool)
-IsLineBehind profile decls verb.Unwatch text line rest = (number : ℕ) × IsNumberLast text number rest × (line ≡ Unwatch number)
+IsLineBehind profile decls verb.Unwatch text line rest = (number : ℕ) × IsNumberNext text number (10 ∷ rest) × (line ≡ Unwatch number)

@@ -1,7 +1,6 @@
 -- Scripts: which lines they have, and which line of an input is the first bad one. What they do stands in `Playing.antt`.
-use Rattle.std.specs.Prelude.{◌≡◌, ◌≢◌, ◌⊎◌, ℕ, ◌+◌, ◌<◌, ◌≤◌, ◌==◌, ℤ, List, [], ◌∷◌, ◌++◌, length, slice_get, codes, Option, count_by, All, IsPermutation}
+use Rattle.std.specs.Prelude.{◌≡◌, ◌≢◌, ◌⊎◌, ℕ, ◌+◌, ◌≤◌, ℤ, List, [], ◌∷◌, ◌++◌, length, slice_get, codes, Option, Some, IsPermutation}
 use Rattle.std.specs.List.{flat_map, AllByRecursion, AllZip}
-use Rattle.std.specs.List.Sorted.{IsNonDecreasing}
 use Rattle.std.specs.Option.{option_map_or, option_and_then}
 use Rattle.std.specs.Fmt.{decimal}
 use Rattle.entity_id.specs.declared.entity.Entity.{Entity}
@@ -12,24 +11,23 @@ use Rattle.world_model.specs.declared.command.Command.{Command}
 use Rattle.world_model.specs.declared.command.Command.TheVariants as command
 use Rattle.world_model.specs.declared.component.Decl.{Decl}
 use Rattle.world_model.specs.declared.component.Kind.{Kind}
+use Rattle.world_model.specs.declared.component.Kind.TheVariants.{Int}
 use Rattle.world_model.specs.declared.component.Row.{Row}
 use Rattle.world_model.specs.declared.event.EventKind.{EventKind}
 use Rattle.world_model.specs.declared.event.EventKind.TheVariants as event
+use Rattle.world_model.specs.declared.group.GroupDecl.{GroupDecl}
 use Rattle.world_model.specs.Components.{kinds_of}
 use Rattle.world_model.specs.Conditions.{MaySet, MaySetField, MayView}
-use Rattle.world_model.specs.Tokens.{IsNameToken}
 use Rattle.world_text.specs.declared.document.Document.{Document}
 use Rattle.world_text.specs.declared.script.ScriptLine.{ScriptLine}
 use Rattle.world_text.specs.declared.script.ScriptLine.TheVariants.{Run, Watch, Unwatch}
 use Rattle.world_text.specs.Documents.{IsFrontOf, IsBadFrontOf, value_in, values_in}
 use Rattle.world_text.specs.Formats.{version_1}
+use Rattle.world_text.specs.GroupLines.{group_text, IsGroupLine, IsGroupWrittenAs}
 use Rattle.world_text.specs.Lines.{value_text, values_text}
+use Rattle.world_text.specs.NameLists.{name_at, names_text, part_text, IsCalled, AreKept, AreNamedOnce}
 
 -- ---- spelling
-
--- the name of a component
-abbrev pub name_at : List Decl → ℕ → List ℕ
-name_at decls pool = option_map_or (λ decl. decl.name) (slice_get decls pool) []
 
 -- the kind of a field of a component
 abbrev pub kind_at : List Decl → ℕ → ℕ → Option Kind
@@ -50,15 +48,6 @@ field_text decls pool field = name_at decls pool ++ 46 ∷ decimal field
 -- a value of a field of a component
 abbrev pub field_value_text : Profile → List Decl → ℕ → ℕ → ℤ → List ℕ
 field_value_text profile decls pool field value = option_map_or (λ kind. value_text profile (value_in profile kind value)) (kind_at decls pool field) []
-
--- names of components, each behind a space
-abbrev pub names_text : List Decl → List ℕ → List ℕ
-names_text decls pools = flat_map (λ pool. 32 ∷ name_at decls pool) pools
-
--- the components that a view leaves out: nothing, or the word `not` and their names
-abbrev pub without_text : List Decl → List ℕ → List ℕ
-without_text decls [] = []
-without_text decls (pool ∷ pools) = codes " not" ++ names_text decls (pool ∷ pools)
 
 -- a command that names components in the order in which it lists them, without the end of its line
 abbrev pub command_text : Profile → List Decl → Command → List ℕ
@@ -81,8 +70,11 @@ command_text profile decls (command.AnyOf entity pools) = codes "any_of " ++ (en
 command_text profile decls (command.Orphan entity) = codes "orphan " ++ entity_text profile entity
 command_text profile decls command.Alive = codes "alive"
 command_text profile decls command.Size = codes "size"
-command_text profile decls (command.View all without) = codes "view" ++ (names_text decls all ++ without_text decls without)
-command_text profile decls _ = []
+command_text profile decls (command.View all without) = codes "view" ++ (names_text decls all ++ part_text (codes " not") decls without)
+command_text profile decls (command.Group group) = codes "group" ++ group_text decls group
+command_text profile decls (command.Members group) = codes "members " ++ decimal group
+command_text profile decls (command.SortPool pool field) = codes "sort pool " ++ field_text decls pool field
+command_text profile decls (command.SortGroup group pool field) = codes "sort group " ++ (decimal group ++ 32 ∷ field_text decls pool field)
 
 -- the word for a kind of events
 abbrev pub event_word : EventKind → List ℕ
@@ -102,6 +94,7 @@ IsWrittenAs (command.AllOf entity pools) written = (order : List ℕ) × IsPermu
 IsWrittenAs (command.AnyOf entity pools) written = (order : List ℕ) × IsPermutation order pools × (written ≡ command.AnyOf entity order)
 IsWrittenAs (command.View all without) written =
     (order : List ℕ) × (excluded : List ℕ) × IsPermutation order all × IsPermutation excluded without × (written ≡ command.View order excluded)
+IsWrittenAs (command.Group group) written = (order : GroupDecl) × IsGroupWrittenAs group order × (written ≡ command.Group order)
 IsWrittenAs command written = written ≡ command
 
 -- a line as a script may write it
@@ -124,26 +117,12 @@ begun_text profile decls lines = first_line ++ flat_map (script_line_text profil
 
 -- ---- which lines there are
 
--- a declared component that its name tells: the name has the form of names, and no component before it has the same
-pub record IsCalled (decls : List Decl) (pool : ℕ) : Type 0 where
-  pub declared : pool < length decls
-  pub named : IsNameToken decls (name_at decls pool) pool
-
 -- the entity of a command is an identifier of the profile, and its component is one that its name tells
 pub record IsEntry (profile : Profile) (decls : List Decl) (entity : Entity) (pool : ℕ) : Type 0 where
   pub of_profile : IsOfProfile profile entity
   pub called : IsCalled decls pool
 
--- components that their names tell, in ascending number
-pub record AreKept (decls : List Decl) (pools : List ℕ) : Type 0 where
-  pub called : All (IsCalled decls) pools
-  pub ascending : IsNonDecreasing pools
-
--- no component is named twice
-abbrev pub AreNamedOnce : List ℕ → Type 0
-AreNamedOnce pools = (pool : ℕ) → count_by (λ other. other == pool) pools ≤ 1
-
--- the components that a line lists, and those that it lists behind `not`: one of the first or more, not more than 16 in all, none twice,
+-- the components that a query lists, and those that it lists behind `not`: one of the first or more, not more than 16 in all, none twice,
 -- each list in ascending number
 pub record AreLists (decls : List Decl) (all without : List ℕ) : Type 0 where
   pub bounds : MayView all without
@@ -151,7 +130,17 @@ pub record AreLists (decls : List Decl) (all without : List ℕ) : Type 0 where
   pub kept : AreKept decls all
   pub kept_without : AreKept decls without
 
--- the commands that a script can have, with identifiers of the profile, components that their names tell, and rows and values that fit them
+-- the greatest number of a watch or of a group in a line
+abbrev pub number_limit : ℕ
+number_limit = 4294967295
+
+-- a field that a sort goes by: an `int` field of a component that its name tells
+pub record IsSortField (decls : List Decl) (pool field : ℕ) : Type 0 where
+  pub called : IsCalled decls pool
+  pub of_kind : kind_at decls pool field ≡ Some Int
+
+-- the commands that a script can have, with identifiers of the profile, components that their names tell, rows and values that fit them,
+-- groups that a line can have, numbers within the limit, and `int` fields to sort by
 abbrev pub IsCommandLine : Profile → List Decl → Command → Type 0
 IsCommandLine profile decls command.Create = Unit {0}
 IsCommandLine profile decls (command.Hint entity) = IsOfProfile profile entity
@@ -171,17 +160,16 @@ IsCommandLine profile decls (command.Orphan entity) = IsOfProfile profile entity
 IsCommandLine profile decls command.Alive = Unit {0}
 IsCommandLine profile decls command.Size = Unit {0}
 IsCommandLine profile decls (command.View all without) = AreLists decls all without
-IsCommandLine profile decls _ = ⊥
-
--- the greatest number in an `unwatch` line
-abbrev pub unwatch_limit : ℕ
-unwatch_limit = 4294967295
+IsCommandLine profile decls (command.Group group) = IsGroupLine decls group
+IsCommandLine profile decls (command.Members group) = group ≤ number_limit
+IsCommandLine profile decls (command.SortPool pool field) = IsSortField decls pool field
+IsCommandLine profile decls (command.SortGroup group pool field) = (group ≤ number_limit) × IsSortField decls pool field
 
 -- the lines that a script can have
 abbrev pub IsScriptLine : Profile → List Decl → ScriptLine → Type 0
 IsScriptLine profile decls (Run command) = IsCommandLine profile decls command
 IsScriptLine profile decls (Watch kind pool) = IsCalled decls pool
-IsScriptLine profile decls (Unwatch number) = number ≤ unwatch_limit
+IsScriptLine profile decls (Unwatch number) = number ≤ number_limit
 
 -- a text begins with a line of a script, and this stands behind it
 pub record IsLineFirst (profile : Profile) (decls : List Decl) (bytes : List ℕ) (line : ScriptLine) (rest : List ℕ) : Type 0 where

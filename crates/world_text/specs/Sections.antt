@@ -1,18 +1,19 @@
 -- The parts of a document and their order.
 use Rattle.std.specs.Prelude.{ℕ, Bool, ◌&&◌, nat_lt, nat_le, if◌then◌else◌}
 use Rattle.world_text.specs.declared.section.Section.{Section}
-use Rattle.world_text.specs.declared.section.Section.TheVariants.{Start, Version, Components, Tick, Slots, FreeList, Pools, End}
+use Rattle.world_text.specs.declared.section.Section.TheVariants.{Start, Version, Components, Groups, Tick, Slots, FreeList, Pools, End}
 
 -- the place of a part in the order
 abbrev pub order : Section → ℕ
 order Start = 0
 order Version = 1
 order Components = 2
-order Tick = 3
-order Slots = 4
-order FreeList = 5
-order Pools = 6
-order End = 7
+order Groups = 3
+order Tick = 4
+order Slots = 5
+order FreeList = 6
+order Pools = 7
+order End = 8
 
 -- whether a part is one of those from first to last
 abbrev pub is_between : Section → Section → Section → Bool

@@ -57,6 +57,9 @@ word_of (verb.OfNames of) = names_word of
 word_of verb.Patch = codes "patch"
 word_of verb.Clear = codes "clear"
 word_of verb.View = codes "view"
+word_of verb.Group = codes "group"
+word_of verb.Members = codes "members"
+word_of verb.Sort = codes "sort"
 word_of verb.Watch = codes "watch"
 word_of verb.Unwatch = codes "unwatch"
 

@@ -1,16 +1,19 @@
 //! One line more in a draft: whether it is admissible after the lines before it, and what it adds.
 
-ghost use Rattle.std.specs.Prelude.{◌≡◌, true, slice_index_or, OnOk, IsErrOf};
-ghost use Rattle.std.specs.List.{list_any};
+ghost use Rattle.std.specs.Prelude.{◌≡◌, ◌&&◌, true, slice_index_or, OnOk, IsErrOf};
+ghost use Rattle.std.specs.List.{list_all, list_any};
 ghost use Rattle.world_model.specs.Components.{has_name};
-ghost use Rattle.world_text.specs.Drafts.{Takes, Refuses};
+ghost use Rattle.world_model.specs.Groups.{are_declared, group_pools, may_coexist as coexist};
+ghost use Rattle.world_text.specs.Drafts.{Takes, Refuses, TakesGroup, RefusesGroup};
+ghost use Rattle.world_text.specs.Fitting.{may_join as joins};
 ghost use Rattle.world_text.specs.LineKinds.{Line};
 
 use super::LineFault;
 use super::draft::Draft;
 use super::format::COMPONENT_LIMIT;
 use super::section::Section;
-use world_model::{Decl, Slot};
+use group_rules::{GROUP_LIMIT, Relation, check, relate};
+use world_model::{Decl, GroupDecl, Slot};
 
 fn has_decl(decls: &[Decl], name: &[u8]) -> bool
     ensures { result ≡ list_any (has_name name.now) decls.now }
@@ -52,15 +55,52 @@ pub fn add_component(draft: &mut Draft, decl: Decl) -> Result<(), LineFault>
     Ok(())
 }
 
+/// Adds a group, where it is well-formed, there is room for one more, and it may stand beside each before
+/// it. That its line names its components is the caller's to test.
+pub fn add_group(draft: &mut Draft, decl: GroupDecl) -> Result<(), LineFault>
+    ensures ok { OnOk result (TakesGroup draft.old decl draft.new) }
+    ensures bad { IsErrOf result LineFault.Bad → RefusesGroup draft.old decl }
+{
+    if !draft.section.is_between(Section::Version, Section::Groups) {
+        return Err(LineFault::Bad);
+    }
+    if !may_join(&draft.groups, &decl, draft.decls.len() as u32) {
+        return Err(LineFault::Bad);
+    }
+    draft.groups.push(decl)?;
+    draft.section = Section::Groups;
+    Ok(())
+}
+
+// Whether a group is one over so many pools, and may be added to these.
+fn may_join(groups: &[GroupDecl], decl: &GroupDecl, pools: u32) -> bool
+    ensures { result ≡ (are_declared pools (group_pools decl.now) && joins groups.now decl.now) }
+{
+    check(decl, pools).is_ok() && groups.len() < GROUP_LIMIT as usize && is_beside_all(groups, decl)
+}
+
+fn is_beside_all(groups: &[GroupDecl], decl: &GroupDecl) -> bool
+    ensures { result ≡ list_all (coexist decl.now) groups.now }
+{
+    groups.iter().all(|other| may_coexist(decl, other))
+}
+
+// Whether two groups may stand beside each other.
+fn may_coexist(a: &GroupDecl, b: &GroupDecl) -> bool
+    ensures { result ≡ coexist a.now b.now }
+{
+    match relate(a, b) {
+        Relation::Apart | Relation::Inner | Relation::Outer => true,
+        Relation::Same | Relation::Conflict => false,
+    }
+}
+
 /// Adds the tick number.
 pub fn add_tick(draft: &mut Draft, tick: u64) -> Result<(), LineFault>
     ensures ok { OnOk result (Takes draft.old (Line.Tick tick) draft.new) }
     ensures bad { IsErrOf result LineFault.Bad → Refuses draft.old (Line.Tick tick) }
 {
-    if !draft
-        .section
-        .is_between(Section::Version, Section::Components)
-    {
+    if !draft.section.is_between(Section::Version, Section::Groups) {
         return Err(LineFault::Bad);
     }
     draft.tick = tick;

@@ -10,11 +10,14 @@ ghost use Rattle.world_text.specs.Reading.{IsAfter};
 ghost use Rattle.world_text.specs.Scripts.{IsLineFirst, first_line, last_line};
 ghost use Rattle.world_text.specs.ScriptReading.{IsLineBehind};
 
-use super::line_parts::{take_last_entity, take_last_entry, take_last_pool};
+use super::first_words::verb_of;
+use super::group_lines::take_group;
+use super::line_parts::{take_last_entity, take_last_entry, take_last_number, take_last_pool};
 use super::list_lines::{take_of_names, take_view};
 use super::row_commands::{take_of_row, take_patch};
+use super::sort_lines::take_sort;
 use super::verbs::{
-    EntityVerb, EntryVerb, PlainVerb, Verb, entity_command, entry_command, plain_command, verb_of,
+    EntityVerb, EntryVerb, PlainVerb, Verb, entity_command, entry_command, plain_command,
 };
 use super::watch_lines::{take_unwatch, take_watch};
 use super::words::{after, split_name};
@@ -82,6 +85,9 @@ fn take_behind<'a>(
         Verb::Patch => take_patch(decls, text).ok_or(LineFault::Bad),
         Verb::Clear => take_clear(decls, text).ok_or(LineFault::Bad),
         Verb::View => take_view(alloc, decls, text),
+        Verb::Group => take_group_line(alloc, decls, text),
+        Verb::Members => take_members(text).ok_or(LineFault::Bad),
+        Verb::Sort => take_sort(decls, text).ok_or(LineFault::Bad),
         Verb::Watch => take_watch(decls, text).ok_or(LineFault::Bad),
         Verb::Unwatch => take_unwatch(text).ok_or(LineFault::Bad),
     }
@@ -131,4 +137,29 @@ fn take_clear<'a>(decls: &[Decl], text: &'a [u8]) -> Option<(ScriptLine, &'a [u8
 {
     let (pool, rest) = take_last_pool(decls, text)?;
     Some((ScriptLine::Run(Command::Clear { pool }), rest))
+}
+
+fn take_group_line<'a>(
+    alloc: Global,
+    decls: &[Decl],
+    text: &'a [u8],
+) -> Result<(ScriptLine, &'a [u8]), LineFault>
+    requires { length decls.now ≤ component_limit }
+    ensures ok { IfOk result (λ x.
+        IsLineBehind version_1.profile decls.now Verb.Group text.now x.0 x.1.now) }
+    ensures bad { IsErrOf result LineFault.Bad → (line : ScriptLine) (rest : List ℕ) →
+        IsLineBehind version_1.profile decls.now Verb.Group text.now line rest → ⊥ }
+{
+    let (decl, rest) = take_group(alloc, decls, text)?;
+    Ok((ScriptLine::Run(Command::Group { decl }), rest))
+}
+
+fn take_members(text: &[u8]) -> Option<(ScriptLine, &[u8])>
+    ensures some { IfSome result (λ x. (decls : List Decl) →
+        IsLineBehind version_1.profile decls Verb.Members text.now x.0 x.1.now) }
+    ensures none { IfNone result ((decls : List Decl) (line : ScriptLine) (rest : List ℕ) →
+        IsLineBehind version_1.profile decls Verb.Members text.now line rest → ⊥) }
+{
+    let (group, rest) = take_last_number(text)?;
+    Some((ScriptLine::Run(Command::Members { group }), rest))
 }

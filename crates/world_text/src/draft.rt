@@ -1,8 +1,10 @@
-ghost use Rattle.std.specs.Prelude.{◌≡◌, not, count_by};
+ghost use Rattle.std.specs.Prelude.{◌≡◌, ◌≤◌, true, length, not, count_by};
+ghost use Rattle.world_model.specs.Worlds.{component_limit};
+ghost use Rattle.world_text.specs.Documents.{are_named_apart};
 
 use super::format::Format;
 use super::section::Section;
-use world_model::{Decl, Rows, Slot};
+use world_model::{Decl, GroupDecl, Rows, Slot};
 
 /// What the lines read so far stand for.
 #[derive(Debug, Drop)]
@@ -13,6 +15,8 @@ pub struct Draft {
     pub section: Section,
     /// The components, by number.
     pub decls: Vec<Decl>,
+    /// The groups, by number.
+    pub groups: Vec<GroupDecl>,
     /// The tick number, and 0 before its line.
     pub tick: u64,
     /// The slots, by index.
@@ -25,5 +29,7 @@ pub struct Draft {
     pub unsettled: usize,
     /// The rows of the pools, the last of which may grow.
     pub pools: Vec<Rows>,
+    ghost few: { length decls.items ≤ component_limit },
+    ghost apart: { are_named_apart decls.items ≡ true },
     ghost counted: { unsettled ≡ count_by not settled.items },
 }

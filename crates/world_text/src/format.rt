@@ -23,3 +23,6 @@ pub const COMPONENT_LIMIT: usize = 64;
 
 /// The greatest tick number.
 pub const TICK_LIMIT: u64 = 1_000_000_000_000;
+
+/// How many bytes a line has at most, its end not counted.
+pub const LINE_LIMIT: usize = 4_096;

@@ -4,6 +4,7 @@
 //! What a document is stands in `specs/`, as a relation on whole lists of lines: `Lines.antt` says
 //! how each line is spelled, `Fitting.antt` where a line is admissible after the lines before it, and
 //! `Documents.antt` which bytes are a document of which world, and which line is the first bad one.
+//! `GroupLines.antt` says how an owning group is spelled, in a document and in a script.
 //! Likewise `Scripts.antt` says how the lines of a script are spelled, which texts are scripts, and which
 //! line is the first bad one, and `Playing.antt` what a script prints and leaves.
 #![tactic(auto)]
@@ -14,7 +15,10 @@ mod document;
 mod draft;
 mod fault;
 mod filling;
+mod first_words;
 mod format;
+mod group_lines;
+mod group_printing;
 mod laws;
 mod line_parts;
 mod list_lines;
@@ -32,6 +36,7 @@ mod script_laws;
 mod scripts;
 mod section;
 mod single;
+mod sort_lines;
 mod verbs;
 mod watch_lines;
 mod watch_replies;

@@ -4,12 +4,15 @@ ghost use Rattle.std.specs.Prelude.{◌≡◌, ◌<◌, ◌∷◌, ◌≤◌, �
 ghost use Rattle.entity_id.specs.declared.entity.Entity.{Entity};
 ghost use Rattle.world_model.specs.Worlds.{component_limit};
 ghost use Rattle.world_text.specs.Formats.{version_1};
-ghost use Rattle.world_text.specs.ScriptReading.{IsEntityNext, IsEntryNext, IsPoolNext};
+ghost use Rattle.world_text.specs.ScriptReading.{IsEntityNext, IsEntryNext, IsNumberNext, IsPoolNext};
 
 use super::format::VERSION_1;
 use super::words::{after, split_name};
-use entity_id::{Entity, take_entity};
+use entity_id::{Entity, take_entity, take_nat};
 use world_model::{Decl, read_name};
+
+// The greatest number of a watch or of a group in a line.
+const NUMBER_LIMIT: u64 = 4_294_967_295;
 
 /// An identifier, and what stands behind it.
 pub fn take_next_entity(text: &[u8]) -> Option<(Entity, &[u8])>
@@ -83,4 +86,26 @@ pub fn take_last_entry<'a>(decls: &[Decl], text: &'a [u8]) -> Option<(Entity, u3
     let (entity, pool, rest) = take_next_entry(decls, text)?;
     let rest = after(rest, b"\n")?;
     Some((entity, pool, rest))
+}
+
+/// The number of a watch or of a group, and what stands behind it.
+pub fn take_next_number(text: &[u8]) -> Option<(u32, &[u8])>
+    ensures some { IfSome result (λ x. IsNumberNext text.now x.0 x.1.now) }
+    ensures none { IfNone result ((number : ℕ) (rest : List ℕ) →
+        IsNumberNext text.now number rest → ⊥) }
+{
+    let text = after(text, b" ")?;
+    let (number, rest) = take_nat(text, NUMBER_LIMIT)?;
+    Some((number as u32, rest))
+}
+
+/// The number of a watch or of a group up to the end of its line, and what stands behind that.
+pub fn take_last_number(text: &[u8]) -> Option<(u32, &[u8])>
+    ensures some { IfSome result (λ x. IsNumberNext text.now x.0 (10 ∷ x.1.now)) }
+    ensures none { IfNone result ((number : ℕ) (rest : List ℕ) →
+        IsNumberNext text.now number (10 ∷ rest) → ⊥) }
+{
+    let (number, rest) = take_next_number(text)?;
+    let rest = after(rest, b"\n")?;
+    Some((number, rest))
 }

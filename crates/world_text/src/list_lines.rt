@@ -5,14 +5,18 @@ ghost use Rattle.world_text.specs.declared.script.ScriptLine.{ScriptLine};
 ghost use Rattle.world_text.specs.declared.verbs.Verb.{Verb};
 ghost use Rattle.world_model.specs.Worlds.{component_limit};
 ghost use Rattle.world_text.specs.Formats.{version_1};
-ghost use Rattle.world_text.specs.ScriptReading.{IsLineBehind};
+ghost use Rattle.world_text.specs.ScriptReading.{AreNamesLast, IsLineBehind};
 
 use super::line_parts::take_next_entity;
-use super::name_lists::{kept, take_last_names, take_names, take_without};
+use super::name_lists::{kept, take_part, take_some_names};
 use super::verbs::{NamesVerb, Verb, names_command};
+use super::words::after;
 use super::{LineFault, ScriptLine};
 use std::alloc::Global;
 use world_model::{Command, Decl};
+
+// How many components a line of a query lists at most.
+const LIST_LIMIT: usize = 16;
 
 /// The line of a word with an identifier and names of components behind it, and what stands behind its
 /// end.
@@ -31,7 +35,7 @@ pub fn take_of_names<'a>(
     let Some((entity, rest)) = take_next_entity(text) else {
         return Err(LineFault::Bad);
     };
-    let (pools, rest) = take_last_names(alloc, decls, &[], rest)?;
+    let (pools, rest) = take_last_names(alloc, decls, rest)?;
     let command = names_command(verb, entity, kept(pools));
     Ok((ScriptLine::Run(command), rest))
 }
@@ -48,14 +52,39 @@ pub fn take_view<'a>(
     ensures bad { IsErrOf result LineFault.Bad → (line : ScriptLine) (rest : List ℕ) →
         IsLineBehind version_1.profile decls.now Verb.View text.now line rest → ⊥ }
 {
-    let (all, behind) = take_names(alloc, decls, &[], text)?;
-    if all.is_empty() {
+    let (all, behind) = take_some_names(alloc, decls, &[], text)?;
+    let (without, rest) = take_part(alloc, decls, &all, b" not", behind)?;
+    if all.len() + without.len() > LIST_LIMIT {
         return Err(LineFault::Bad);
     }
-    let (without, rest) = take_without(alloc, decls, &all, behind)?;
+    let Some(rest) = after(rest, b"\n") else {
+        return Err(LineFault::Bad);
+    };
     let command = Command::View {
         all: kept(all),
         without: kept(without),
     };
     Ok((ScriptLine::Run(command), rest))
+}
+
+// The components that names up to the end of a line name, one or more, in their order, and what stands
+// behind the line's end.
+fn take_last_names<'a>(
+    alloc: Global,
+    decls: &[Decl],
+    text: &'a [u8],
+) -> Result<(Vec<u32>, &'a [u8]), LineFault>
+    requires { length decls.now ≤ component_limit }
+    ensures ok { IfOk result (λ x. AreNamesLast decls.now text.now x.0.items x.1.now) }
+    ensures bad { IsErrOf result LineFault.Bad → (pools rest : List ℕ) →
+        AreNamesLast decls.now text.now pools rest → ⊥ }
+{
+    let (pools, rest) = take_some_names(alloc, decls, &[], text)?;
+    if pools.len() > LIST_LIMIT {
+        return Err(LineFault::Bad);
+    }
+    let Some(rest) = after(rest, b"\n") else {
+        return Err(LineFault::Bad);
+    };
+    Ok((pools, rest))
 }

@@ -10,9 +10,10 @@ ghost use Rattle.world_text.specs.Formats.{IsFormat};
 ghost use Rattle.world_text.specs.Drafts.{TakesLine, RefusesLine};
 
 use super::LineFault;
-use super::adding::add_component;
+use super::adding::{add_component, add_group};
 use super::draft::Draft;
 use super::filling::add_pool;
+use super::group_lines::take_group;
 use super::words::{after, split_word};
 use entity_id::{Name, split_once};
 use std::alloc::Global;
@@ -35,6 +36,21 @@ pub fn read_component<'a>(
     };
     let decl = component_of(alloc, text)?;
     add_component(draft, decl)?;
+    Ok(after)
+}
+
+/// Reads a line `group own NAMES`, and behind it a list of names behind `get` and one behind `not`, or not.
+pub fn read_group<'a>(
+    alloc: Global,
+    draft: &mut Draft,
+    text: &'a [u8],
+) -> Result<&'a [u8], LineFault>
+    ensures ok { IfOk result (λ after.
+        TakesLine draft.old (codes "group" ++ text.now) after.now draft.new) }
+    ensures bad { IsErrOf result LineFault.Bad → RefusesLine draft.old (codes "group" ++ text.now) }
+{
+    let (decl, after) = take_group(alloc, &draft.decls, text)?;
+    add_group(draft, decl)?;
     Ok(after)
 }
 

@@ -8,6 +8,7 @@ ghost use Rattle.world_text.specs.LineKinds.{Line};
 
 use super::Document;
 use super::format::VERSION_1;
+use super::group_printing::push_groups;
 use super::row_printing::write_row;
 use entity_id::{Entity, OutOfMemory};
 use itoa::write_digits;
@@ -53,6 +54,7 @@ fn push_lines(out: &mut Vec<u8>, document: &Document) -> Result<(), OutOfMemory>
     let world = &document.world;
     push_number(out, b"world ", VERSION_1.version)?;
     push_decls(out, world.decls.as_slice())?;
+    push_groups(out, world.decls.as_slice(), world.groups.as_slice())?;
     push_number(out, b"tick ", world.tick)?;
     push_slots(out, world.slots.as_slice())?;
     push_nexts(out, world.free.as_slice())?;

@@ -8,7 +8,7 @@ ghost use Rattle.world_text.specs.Refusals.{IsCause, IsFrontCause};
 use super::adding::add_end;
 use super::draft::Draft;
 use super::format::{Format, VERSION_1};
-use super::name_lines::{read_component, read_pool};
+use super::name_lines::{read_component, read_group, read_pool};
 use super::number_lines::{read_next, read_slot, read_tick, read_version};
 use super::row_lines::read_row;
 use super::section::Section;
@@ -25,6 +25,7 @@ fn empty_draft(alloc: Global, format: Format) -> Draft
         format,
         section: Section::Start,
         decls: Vec::new(alloc),
+        groups: Vec::new(alloc),
         tick: 0,
         slots: Vec::new(alloc),
         free: Vec::new(alloc),
@@ -57,6 +58,9 @@ fn read_line<'a>(alloc: Global, draft: &mut Draft, bytes: &'a [u8]) -> Result<&'
     }
     if let Some(text) = after(bytes, b"component ") {
         return read_component(alloc, draft, text);
+    }
+    if let Some(text) = after(bytes, b"group") {
+        return read_group(alloc, draft, text);
     }
     if let Some(text) = after(bytes, b"tick ") {
         return read_tick(draft, text);
@@ -113,7 +117,7 @@ pub fn read_front(alloc: Global, bytes: &[u8]) -> Result<Front, TextRefused>
         }
         lines += 1;
     }
-    let document = finished(alloc, draft);
+    let document = finished(draft);
     let taken = (bytes.len() - rest.len()) as u64;
     Ok(Front {
         document,
@@ -138,13 +142,13 @@ pub fn read_world(alloc: Global, bytes: &[u8]) -> Result<Document, TextRefused>
     Ok(front.document)
 }
 
-fn finished(alloc: Global, draft: Draft) -> Document
+fn finished(draft: Draft) -> Document
     ensures { result.world ≡ world_in draft }
 {
     let world = World {
         profile: draft.format.profile,
         decls: DeclList::from_vec(draft.decls),
-        groups: GroupList::from_vec(Vec::new(alloc)),
+        groups: GroupList::from_vec(draft.groups),
         tick: draft.tick,
         slots: SlotList::from_vec(draft.slots),
         free: FreeList::from_vec(draft.free),

@@ -56,8 +56,8 @@ pub fn take_patch<'a>(decls: &[Decl], text: &'a [u8]) -> Option<(ScriptLine, &'a
     Some((ScriptLine::Run(command), rest))
 }
 
-// A field of a component behind a space, its kind, and what stands behind it.
-fn take_next_field<'a>(decls: &[Decl], text: &'a [u8]) -> Option<(FieldAt, Kind, &'a [u8])>
+/// A field of a component behind a space, its kind, and what stands behind it.
+pub fn take_next_field<'a>(decls: &[Decl], text: &'a [u8]) -> Option<(FieldAt, Kind, &'a [u8])>
     requires { length decls.now ≤ component_limit }
     ensures some { IfSome result (λ x.
         IsFieldNext decls.now text.now x.0.pool x.0.field x.1 x.2.now) }

@@ -10,7 +10,8 @@ ghost use Rattle.world_text.specs.declared.script.ScriptLine.{ScriptLine};
 ghost use Rattle.world_text.specs.Documents.{AreNamedDecls, IsLawfulDocument};
 ghost use Rattle.world_text.specs.Formats.{version_1};
 ghost use Rattle.world_text.specs.Playing.{document_after};
-ghost use Rattle.world_text.specs.Scripts.{IsCalled, IsCommandText, IsScriptLine, IsScript, IsBadScriptLine, IsScripted, IsBadScriptedLine};
+ghost use Rattle.world_text.specs.NameLists.{IsCalled};
+ghost use Rattle.world_text.specs.Scripts.{IsCommandText, IsScriptLine, IsScript, IsBadScriptLine, IsScripted, IsBadScriptedLine};
 
 /// Each component of a document is the one that its name tells. No memory.
 pub fn names_tell_components()

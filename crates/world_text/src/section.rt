@@ -10,6 +10,8 @@ pub enum Section {
     Version,
     /// The components.
     Components,
+    /// The groups.
+    Groups,
     /// The tick number.
     Tick,
     /// The slots.

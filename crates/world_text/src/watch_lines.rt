@@ -11,14 +11,10 @@ ghost use Rattle.world_text.specs.Scripts.{event_word};
 ghost use Rattle.world_text.specs.ScriptReading.{IsLineBehind};
 
 use super::ScriptLine;
-use super::line_parts::take_last_pool;
+use super::line_parts::{take_last_number, take_last_pool};
 use super::verbs::Verb;
 use super::words::after;
-use entity_id::take_nat;
 use world_model::{Decl, EventKind};
-
-// The greatest number in an `unwatch` line.
-const UNWATCH_LIMIT: u64 = 4_294_967_295;
 
 /// The line of the word `watch`, and what stands behind its end.
 pub fn take_watch<'a>(decls: &[Decl], text: &'a [u8]) -> Option<(ScriptLine, &'a [u8])>
@@ -58,9 +54,6 @@ pub fn take_unwatch(text: &[u8]) -> Option<(ScriptLine, &[u8])>
     ensures none { IfNone result ((decls : List Decl) (line : ScriptLine) (rest : List ℕ) →
         IsLineBehind version_1.profile decls Verb.Unwatch text.now line rest → ⊥) }
 {
-    let text = after(text, b" ")?;
-    let (number, rest) = take_nat(text, UNWATCH_LIMIT)?;
-    let rest = after(rest, b"\n")?;
-    let number = number as u32;
+    let (number, rest) = take_last_number(text)?;
     Some((ScriptLine::Unwatch { number }, rest))
 }

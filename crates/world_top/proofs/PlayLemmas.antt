@@ -14,18 +14,16 @@ use Rattle.entity_id.specs.declared.entity.Entity.{Entity}
 use Rattle.registry.specs.Held.{Held, Does, reply_to}
 use Rattle.registry.specs.Listeners.{listeners_at}
 use Rattle.signal_sink.specs.Hearings.{listener_limit}
-use Rattle.entity_id.specs.declared.entity.Profile.{Profile}
 use Rattle.world_model.specs.declared.command.Command.{Command}
 use Rattle.world_model.specs.declared.command.Reply.{Reply}
 use Rattle.world_model.specs.declared.component.Decl.{Decl}
 use Rattle.world_model.specs.declared.event.EventKind.{EventKind}
 use Rattle.world_model.specs.declared.refusal.Refusal.TheVariants as refusal
 use Rattle.world_model.specs.Steps.{step}
+use Rattle.world_model.proofs.StepLemmas.{step_same}
 use Rattle.world_text.specs.declared.script.ScriptLine.TheVariants.{Run, Watch as WatchLine, Unwatch as UnwatchLine}
 use Rattle.world_text.specs.Playing.{Watching, ScriptOutcome, line_outcome, new_watch, ended, is_watch_of, watch_limit, watch_lines, unwatch_found, unwatch_outcome}
 use Rattle.world_text.specs.Replies.{reply_text, refusal_text, watched_text, unwatched_text, heard_text}
-use Rattle.world_text.specs.Scripts.{IsCommandLine}
-use Rattle.world_text.proofs.ScriptLemmas.{step_keeps}
 use Rattle.world_top.specs.declared.watching.Watch.{Watch}
 use Rattle.world_top.specs.Watched.{AreWatched}
 use Rattle.world_top.specs.Playing.{IsAt, Plays}
@@ -42,14 +40,13 @@ cause_behind input document lines script (BadLine line) front bad = inr (record 
 cause_behind input document lines script OutOfMemory front bad = tt
 
 -- a command was carried out, and its reply was printed
-pub ran : (old new : Held) (command : Command) (reply : Reply) (decls : List Decl) (before after : List ℕ) (watches : List Watch) → old.world.decls ≡ decls → old.world.profile ≡ p20_12 → IsCommandLine p20_12 decls command → Does old new command → reply ≡ reply_to old command → after ≡ before ++ (reply_text p20_12 decls command reply ++ 10 ∷ []) → Plays old new watches watches before after (Run command)
-ran old new command reply decls before after watches same profile is does is_reply printed its h =
+pub ran : (old new : Held) (command : Command) (reply : Reply) (decls : List Decl) (before after : List ℕ) (watches : List Watch) → old.world.decls ≡ decls → old.world.profile ≡ p20_12 → Does old new command → reply ≡ reply_to old command → after ≡ before ++ (reply_text p20_12 decls command reply ++ 10 ∷ []) → Plays old new watches watches before after (Run command)
+ran old new command reply decls before after watches same profile does is_reply printed its h =
     let w = old.world in
-    let line : IsCommandLine w.profile w.decls command = subst (λ (p : Profile). IsCommandLine p w.decls command) (sym profile) (subst (λ (ds : List Decl). IsCommandLine p20_12 ds command) (sym same) is) in
     record {
       limit_is = does.limit;
       world_is = does.world;
-      watched = stepped old new (step old.limit w command).world (step old.limit w command).events watches its h does (step_keeps old.limit w command line).decls;
+      watched = stepped old new (step old.limit w command).world (step old.limit w command).events watches its h does (step_same old.limit w command).decls;
       printed = printed ∙ (λ i. before ++ (reply_text (sym profile i) (sym same i) command (is_reply i) ++ 10 ∷ []));
     }
 

@@ -1,14 +1,12 @@
 -- A script played one line further.
 use Rattle.std.proofs.Common.{◌≡◌, ℕ, ◌+◌, List, [], ◌∷◌, ◌++◌, length-append, refl, sym, ap, ◌∙◌, subst, arith, append_assoc}
-use Rattle.std.specs.List.{AllByRecursion}
-use Rattle.entity_id.specs.declared.entity.Profile.{Profile}
 use Rattle.entity_id.specs.Identifiers.{p20_12}
 use Rattle.world_model.specs.declared.component.Decl.{Decl}
 use Rattle.world_model.specs.declared.world.World.{World}
 use Rattle.registry.specs.Held.{Held}
 use Rattle.world_text.specs.declared.script.ScriptLine.{ScriptLine}
 use Rattle.world_text.specs.Playing.{line_outcome, outcome_from}
-use Rattle.world_text.specs.Scripts.{IsScriptLine, IsLineFirst}
+use Rattle.world_text.specs.Scripts.{IsLineFirst}
 use Rattle.world_text.proofs.BegunLemmas.{begun_none, begun-push}
 use Rattle.world_text.proofs.ScriptLemmas.{script_keeps, outcome-push, printed-push}
 use Rattle.world_top.specs.declared.watching.Watch.{Watch}
@@ -56,8 +54,7 @@ pub record IsOfScript (held : Held) (decls : List Decl) : Type 0 where
 pub played_keeps : (old new : Held) (watches : List Watch) (before after : List ℕ) (decls : List Decl) (bytes : List ℕ) (count : ℕ) (rest : List ℕ) → IsPlayedTo old new watches before after decls bytes count rest → old.world.decls ≡ decls → old.world.profile ≡ p20_12 → IsOfScript new decls
 played_keeps old new watches before after decls bytes count rest h same profile =
     let w = old.world in
-    let each = subst (λ (p : Profile). AllByRecursion (IsScriptLine p w.decls) h.lines) (sym profile) (subst (λ (d : List Decl). AllByRecursion (IsScriptLine p20_12 d) h.lines) (sym same) h.begun.each) in
-    let kept = script_keeps old.limit w [] h.lines each in
+    let kept = script_keeps old.limit w [] h.lines in
     record {
       decls_are = ap (λ (v : World). v.decls) h.at.world_is ∙ kept.decls ∙ same;
       profile_is = ap (λ (v : World). v.profile) h.at.world_is ∙ kept.profile ∙ profile;

@@ -11,6 +11,7 @@ use std::test::Fail;
 
 mod apply;
 mod calls;
+mod groups;
 mod snapshot;
 mod starting;
 mod texts;

@@ -1,11 +1,13 @@
 //! Commands carried out, with their replies.
 
 ghost use Rattle.std.specs.Prelude.{◌≡◌, IsTrue};
-ghost use Rattle.world_model.specs.declared.command.Reply.TheVariants.{Done, Made, Number, Truth, Values, Listed};
+ghost use Rattle.world_model.specs.declared.command.Reply.TheVariants.{Done, Made, Number, Truth, Values, Listed, GroupNumber};
 ghost use Rattle.registry.specs.Costs.{RunsWithin};
 ghost use Rattle.registry.specs.Layout.{world_of, held_of, IsKept};
-ghost use Rattle.registry.specs.Running.{is_question, is_served, reply_by, Asks, IsRun};
+ghost use Rattle.registry.specs.Running.{is_question, reply_by, Asks, IsRun};
 
+use super::grouping::group_by_ref;
+use super::listing::{list_members, list_sorted_group, list_sorted_pool};
 use super::width::is_wide;
 use super::{Parts, clearing, components, creation, leaving, queries, viewing};
 use entity_id::{Entities, Entity};
@@ -22,7 +24,6 @@ pub fn run<L: Listener, G: Ledger>(
 ) -> Reply
     requires consistent { IsKept parts.old }
     requires asked { Asks (world_of parts.old) command.now }
-    requires served { IsTrue (is_served command.now) }
     ensures consistent { IsKept parts.new }
     ensures run { IsRun (held_of parts.old) (held_of parts.new) command.now result }
     ensures steps { RunsWithin (world_of parts.old) command.now steps.old steps.new }
@@ -54,6 +55,11 @@ pub fn run<L: Listener, G: Ledger>(
         }
         Command::Erase { entity, pool } => { done(components::erase(parts, *entity, *pool, steps)) }
         Command::Clear { pool } => count(clearing::clear(parts, *pool, steps)),
+        Command::Group { decl } => numbered(group_by_ref(parts, decl, steps)),
+        Command::SortPool { pool, field } => listed(list_sorted_pool(parts, *pool, *field, steps)),
+        Command::SortGroup { group, pool, field } => {
+            listed(list_sorted_group(parts, *group, *pool, *field, steps))
+        }
         _ => ask(parts, command),
     }
 }
@@ -74,6 +80,7 @@ fn ask<L: Listener>(parts: &Parts<L>, command: &Command) -> Reply
         Command::Alive => Reply::Number(u64::from(parts.slots.alive())),
         Command::Size => Reply::Number(u64::from(parts.slots.len())),
         Command::View { all, without } => listed(viewing::view(parts, all, without)),
+        Command::Members { group } => listed(list_members(parts, *group)),
         // No other command is a question.
         _ => unreachable!(),
     }
@@ -102,6 +109,15 @@ fn count(answer: Result<u32, Refusal>) -> Reply
 {
     match answer {
         Ok(count) => Reply::Number(u64::from(count)),
+        Err(refused) => Reply::Refused(refused),
+    }
+}
+
+fn numbered(answer: Result<u32, Refusal>) -> Reply
+    ensures { result ≡ reply_by (λ group. GroupNumber group) answer }
+{
+    match answer {
+        Ok(group) => Reply::GroupNumber(group),
         Err(refused) => Reply::Refused(refused),
     }
 }

@@ -1,12 +1,14 @@
 //! The commands on one row.
 
-ghost use Rattle.std.specs.Prelude.{◌≡◌, ◌≢◌, ◌+◌, ◌&&◌, not, Some, if◌then◌else◌, is_ok, Err, IfOk, IfErr, OnOk, OnErr};
+ghost use Rattle.std.specs.Prelude.{◌≡◌, ◌≢◌, ◌+◌, ◌≤◌, ◌&&◌, not, Some, false, if◌then◌else◌, is_ok, Err, IfOk, IfErr, OnOk, OnErr};
 ghost use Rattle.world_model.specs.declared.command.Command.TheVariants.{Emplace, EmplaceOrReplace, Replace, Patch, Remove, Erase};
 ghost use Rattle.world_model.specs.declared.command.Reply.TheVariants.{Done, Number, Refused};
 ghost use Rattle.world_model.specs.declared.refusal.Refusal.{Refusal};
 ghost use Rattle.world_model.specs.Components.{with_field};
 ghost use Rattle.world_model.specs.Conditions.{IsAllowed};
 ghost use Rattle.world_model.specs.Contents.{has_row};
+ghost use Rattle.group_engine.specs.Grouped.{is_named};
+ghost use Rattle.registry.specs.Costs.{row_steps};
 ghost use Rattle.registry.specs.Held.{Does, AsBefore, reply_to, refusal_to};
 ghost use Rattle.registry.specs.Layout.{world_of, held_of, IsKept};
 ghost use Rattle.registry.specs.Packing.{Repacks};
@@ -41,7 +43,9 @@ pub fn emplace<L: Listener, G: Ledger>(
         refusal_to (held_of parts.old) (Emplace entity pool row) ≡ Some cause → result ≡ Err cause }
     ensures packed { OnOk result
         (Repacks (held_of parts.old) (held_of parts.new) (Emplace entity pool row)) }
-    ensures steps { steps.new ≡ steps.old + (if is_ok result then 1 else 0) }
+    ensures steps { is_named parts.old.groups.decls pool ≡ false →
+        steps.new ≡ steps.old + (if is_ok result then 1 else 0) }
+    ensures few { steps.new ≤ steps.old + row_steps parts.old.groups.decls pool }
 {
     match entry_refusal(parts, entity, pool) {
         Some(refused) => Err(refused),
@@ -98,8 +102,9 @@ pub fn emplace_or_replace<L: Listener, G: Ledger>(
         refusal_to (held_of parts.old) (EmplaceOrReplace entity pool row) ≡ Some cause → result ≡ Err cause }
     ensures packed { OnOk result
         (Repacks (held_of parts.old) (held_of parts.new) (EmplaceOrReplace entity pool row)) }
-    ensures steps { steps.new ≡ steps.old
+    ensures steps { is_named parts.old.groups.decls pool ≡ false → steps.new ≡ steps.old
         + (if is_ok result && not (has_row (world_of parts.old) pool entity) then 1 else 0) }
+    ensures few { steps.new ≤ steps.old + row_steps parts.old.groups.decls pool }
 {
     match entry_refusal(parts, entity, pool) {
         Some(refused) => Err(refused),
@@ -168,8 +173,10 @@ pub fn remove<L: Listener, G: Ledger>(
     ensures unchanged { OnErr result (AsBefore (held_of parts.old) (held_of parts.new)) }
     ensures packed { OnOk result
         (Repacks (held_of parts.old) (held_of parts.new) (Remove entity pool)) }
-    ensures steps { IfOk result (λ count. steps.new ≡ steps.old + count) }
+    ensures steps { is_named parts.old.groups.decls pool ≡ false →
+        IfOk result (λ count. steps.new ≡ steps.old + count) }
     ensures no_steps { OnErr result (steps.new ≡ steps.old) }
+    ensures few { steps.new ≤ steps.old + row_steps parts.old.groups.decls pool }
 {
     match entry_refusal(parts, entity, pool) {
         Some(refused) => Err(refused),
@@ -194,7 +201,9 @@ pub fn erase<L: Listener, G: Ledger>(
     ensures unchanged { OnErr result (AsBefore (held_of parts.old) (held_of parts.new)) }
     ensures packed { OnOk result
         (Repacks (held_of parts.old) (held_of parts.new) (Erase entity pool)) }
-    ensures steps { steps.new ≡ steps.old + (if is_ok result then 1 else 0) }
+    ensures steps { is_named parts.old.groups.decls pool ≡ false →
+        steps.new ≡ steps.old + (if is_ok result then 1 else 0) }
+    ensures few { steps.new ≤ steps.old + row_steps parts.old.groups.decls pool }
 {
     match entry_refusal(parts, entity, pool) {
         Some(refused) => Err(refused),

@@ -1,10 +1,10 @@
-//! Components copied.
+//! Components and groups copied.
 
 ghost use Rattle.std.specs.Prelude.{◌≡◌, IfOk};
 
-use entity_id::{Name, OutOfMemory};
+use entity_id::{Name, OutOfMemory, Pools};
 use std::alloc::Global;
-use world_model::{Decl, DeclList};
+use world_model::{Decl, DeclList, GroupDecl, GroupList};
 
 // A copy of these components.
 pub fn copy_decls(alloc: Global, decls: &DeclList) -> Result<DeclList, OutOfMemory>
@@ -26,4 +26,33 @@ fn copy_decl(alloc: Global, decl: &Decl) -> Result<Decl, OutOfMemory>
         count: decl.count,
         kinds: decl.kinds,
     })
+}
+
+// A copy of these groups.
+pub fn copy_groups(alloc: Global, groups: &[GroupDecl]) -> Result<GroupList, OutOfMemory>
+    ensures { IfOk result (λ copied. copied ≡ groups.now) }
+{
+    let mut copied = Vec::with_capacity(alloc, groups.len())?;
+    for decl in groups {
+        copied.push(copy_group(alloc, decl)?)?;
+    }
+    Ok(GroupList::from_vec(copied))
+}
+
+// A copy of a group's declaration.
+pub fn copy_group(alloc: Global, decl: &GroupDecl) -> Result<GroupDecl, OutOfMemory>
+    ensures { IfOk result (λ copied. copied ≡ decl.now) }
+{
+    Ok(GroupDecl {
+        own: copy_pools(alloc, &decl.own)?,
+        get: copy_pools(alloc, &decl.get)?,
+        without: copy_pools(alloc, &decl.without)?,
+    })
+}
+
+fn copy_pools(alloc: Global, pools: &Pools) -> Result<Pools, OutOfMemory>
+    ensures { IfOk result (λ copied. copied ≡ pools.now) }
+{
+    let list = Vec::from_slice(alloc, pools.as_slice())?;
+    Ok(Pools::from_vec(list))
 }

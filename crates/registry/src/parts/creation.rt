@@ -6,6 +6,7 @@ ghost use Rattle.world_model.specs.declared.command.Reply.TheVariants.{Made};
 ghost use Rattle.world_model.specs.declared.refusal.Refusal.{Refusal};
 ghost use Rattle.registry.specs.Held.{Does, AsBefore, reply_to, refusal_to};
 ghost use Rattle.registry.specs.Layout.{held_of, IsKept};
+ghost use Rattle.registry.specs.Packing.{Repacks};
 ghost use Rattle.registry.specs.Running.{hint_needs_slot};
 
 use super::Parts;
@@ -25,7 +26,7 @@ pub fn create<L: Listener>(parts: &mut Parts<L>) -> Result<Entity, Refusal>
         refusal_to (held_of parts.old) Create ≡ Some refused) }
     ensures refused { (cause : Refusal) →
         refusal_to (held_of parts.old) Create ≡ Some cause → result ≡ Err cause }
-    ensures packed { (held_of parts.new).packed ≡ (held_of parts.old).packed }
+    ensures packed { OnOk result (Repacks (held_of parts.old) (held_of parts.new) Create) }
     ensures reuse { OnErr result (parts.old.slots.free ≡ []) }
 {
     match parts.slots.create() {
@@ -46,7 +47,7 @@ pub fn create_hint<L: Listener>(parts: &mut Parts<L>, hint: Entity) -> Result<En
         refusal_to (held_of parts.old) (Hint hint) ≡ Some refused) }
     ensures refused { (cause : Refusal) →
         refusal_to (held_of parts.old) (Hint hint) ≡ Some cause → result ≡ Err cause }
-    ensures packed { (held_of parts.new).packed ≡ (held_of parts.old).packed }
+    ensures packed { OnOk result (Repacks (held_of parts.old) (held_of parts.new) (Hint hint)) }
     ensures reuse { OnErr result (IsTrue (hint_needs_slot (held_of parts.old) hint)) }
 {
     match parts.slots.create_hint(hint) {

@@ -4,6 +4,7 @@ ghost use Rattle.std.specs.Prelude.{◌≡◌, ◌≤◌, [], length, replicate,
 ghost use Rattle.std.specs.List.{AllByRecursion};
 ghost use Rattle.entity_id.specs.Identifiers.{is_profile};
 ghost use Rattle.world_model.specs.Components.{IsDecl};
+ghost use Rattle.world_model.specs.Contents.{keys_of};
 ghost use Rattle.world_model.specs.Worlds.{component_limit, empty_world};
 ghost use Rattle.registry.specs.Held.{unheard};
 ghost use Rattle.registry.specs.Layout.{pairs_of, held_of, IsKept, AreMadeOf};
@@ -11,6 +12,7 @@ ghost use Rattle.registry.specs.Layout.{pairs_of, held_of, IsKept, AreMadeOf};
 use super::Parts;
 use entity_id::{OutOfMemory, Profile};
 use entity_slots::EntitySlots;
+use group_engine::GroupEngine;
 use signal_sink::{Listener, Signal};
 use std::alloc::Global;
 use storage::Storage;
@@ -29,11 +31,14 @@ pub fn new<L: Listener>(
     requires decls { AllByRecursion IsDecl decls }
     ensures consistent { IfOk result (λ parts. IsKept parts) }
     ensures held { IfOk result (λ parts.
-        held_of parts ≡ unheard slot_limit (empty_world profile decls)) }
+        held_of parts ≡ unheard slot_limit (empty_world profile decls)
+        (keys_of (empty_world profile decls))) }
 {
     let slots = EntitySlots::new(alloc, profile, slot_limit);
-    let pools = empty_pools(alloc, decls.as_slice().len())?;
-    unheard_parts(alloc, profile, decls, slots, pools)
+    let count = decls.as_slice().len();
+    let pools = empty_pools(alloc, count)?;
+    let groups = GroupEngine::new(alloc, count as u32);
+    unheard_parts(alloc, profile, decls, slots, pools, groups)
 }
 
 // These parts, and signals that nobody listens to.
@@ -43,8 +48,9 @@ pub fn unheard_parts<L: Listener>(
     decls: DeclList,
     slots: EntitySlots,
     pools: Vec<Storage<Row>>,
+    groups: GroupEngine,
 ) -> Result<Parts<L>, OutOfMemory>
-    ensures { IfOk result (λ parts. AreMadeOf parts profile decls slots pools.items) }
+    ensures { IfOk result (λ parts. AreMadeOf parts profile decls slots pools.items groups) }
 {
     let count = decls.as_slice().len();
     let construct = signals(alloc, count)?;
@@ -55,6 +61,7 @@ pub fn unheard_parts<L: Listener>(
         decls,
         slots,
         pools,
+        groups,
         construct,
         update,
         destroy,

@@ -32,6 +32,8 @@ pub fn enter<L: Listener, G: Ledger>(
         (entries.keys pool.new.pairs ≡ entries.keys pool.old.pairs ++ told.entity ∷ []) }
     ensures absent { OnOk result
         (entries.contains (entries.map_of pool.old.pairs) told.entity ≡ false) }
+    ensures fresh { OnOk result
+        (entries.has_index pool.old.pairs told.entity.index ≡ false) }
     ensures heard { OnOk result
         (heard_lists construct.new ≡ heard_also told (heard_lists construct.old)) }
     ensures err { OnErr result (pool.new ≡ pool.old) }

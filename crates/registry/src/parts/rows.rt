@@ -1,25 +1,32 @@
 //! A row of one pool added, set, removed.
 
-ghost use Rattle.std.specs.Prelude.{◌≡◌, ◌≢◌, ◌+◌, ◌<◌, length, Some, None, if◌then◌else◌, is_ok, Err, OnOk, OnErr, IfErr};
+ghost use Rattle.std.specs.Prelude.{◌≡◌, ◌≢◌, ◌+◌, ◌<◌, ◌≤◌, ◌&&◌, ℕ, [], length, slice_set, slice_index_or, Some, None, false, if◌then◌else◌, is_ok, Err, OnOk, OnErr, IfErr};
 ghost use Rattle.std.specs.Bool.{OnTrue, OnFalse};
+ghost use Rattle.entity_id.specs.FiniteMap as entries;
+ghost use Rattle.group_engine.specs.Grouped.{packed_of, is_named, moves, AreGrouped, AreStill};
 ghost use Rattle.world_model.specs.declared.command.Reply.TheVariants.{Done};
 ghost use Rattle.world_model.specs.declared.event.EventKind.TheVariants as event;
 ghost use Rattle.world_model.specs.declared.refusal.Refusal.{Refusal};
 ghost use Rattle.world_model.specs.Contents.{has_row};
 ghost use Rattle.world_model.specs.Outcomes.{sets, drops};
 ghost use Rattle.world_model.specs.Refusing.{when_present, when_absent};
-ghost use Rattle.registry.specs.Layout.{world_of, packed_of, IsKept, Gives, Stays};
+ghost use Rattle.registry.specs.Costs.{row_steps};
+ghost use Rattle.registry.specs.Layout.{maps_of, world_of, HaveRoom, KeepGroups, IsKept, Gives, Stays};
+ghost use Rattle.registry.specs.Leaving.{hearings_after};
 ghost use Rattle.registry.specs.Packing.{appended_in, popped_in};
 
 use super::Parts;
 use super::one_pool::{change, enter, leave};
 use entity_id::Entity;
-use signal_sink::Listener;
+use group_engine::{GroupEngine, groups_after_changes};
+use signal_sink::{Listener, Signal};
 use sparse_set::Steps;
 use std::sync::ledger::Ledger;
+use storage::Storage;
 use world_model::{Event, EventKind, Refusal, Row};
 
-// Adds the row of an identifier. `Present` exactly where it has one, and `OutOfMemory`.
+// Adds the row of an identifier, which then enters and leaves groups as they ask. `Present` exactly
+// where it has one, and `OutOfMemory`.
 pub fn put_row<L: Listener, G: Ledger>(
     parts: &mut Parts<L>,
     entity: Entity,
@@ -37,9 +44,14 @@ pub fn put_row<L: Listener, G: Ledger>(
         when_present (world_of parts.old) pool entity ≡ Some refused) }
     ensures refused { (cause : Refusal) →
         when_present (world_of parts.old) pool entity ≡ Some cause → result ≡ Err cause }
-    ensures packed { OnOk result (packed_of parts.new.pools.items
-        ≡ appended_in pool entity (packed_of parts.old.pools.items)) }
-    ensures steps { steps.new ≡ steps.old + (if is_ok result then 1 else 0) }
+    ensures each { length (packed_of parts.new.pools.items)
+        ≡ length (packed_of parts.old.pools.items) }
+    ensures packed { OnOk result (AreStill (moves parts.old.groups.decls pool)
+        (appended_in pool entity (packed_of parts.old.pools.items)) (packed_of parts.new.pools.items)) }
+    ensures steps { is_named parts.old.groups.decls pool ≡ false →
+        steps.new ≡ steps.old + (if is_ok result then 1 else 0) }
+    ensures few { steps.new ≤ steps.old
+        + (if is_ok result then row_steps parts.old.groups.decls pool else 0) }
 {
     let at = pool as usize;
     let told = Event {
@@ -54,7 +66,12 @@ pub fn put_row<L: Listener, G: Ledger>(
         told,
         row,
         steps,
-    )
+    )?;
+    groups_after_changes(parts.pools[at].values());
+    parts
+        .groups
+        .after_add(&mut parts.pools, entity, pool, steps);
+    Ok(())
 }
 
 // Sets the row of an identifier. `Absent` exactly where it has none, and `OutOfMemory`.
@@ -98,16 +115,65 @@ pub fn drop_row<L: Listener, G: Ledger>(
     ensures gone { OnTrue result
         (Gives parts.old parts.new (drops (world_of parts.old) entity pool Done)) }
     ensures none { OnFalse result (Stays parts.old parts.new) }
-    ensures packed { packed_of parts.new.pools.items
-        ≡ popped_in pool entity (packed_of parts.old.pools.items) }
-    ensures steps { steps.new ≡ steps.old + (if result then 1 else 0) }
+    ensures each { length (packed_of parts.new.pools.items)
+        ≡ length (packed_of parts.old.pools.items) }
+    ensures packed { AreStill
+        (λ (other : ℕ). has_row (world_of parts.old) pool entity && moves parts.old.groups.decls pool other)
+        (popped_in pool entity (packed_of parts.old.pools.items)) (packed_of parts.new.pools.items) }
+    ensures steps { is_named parts.old.groups.decls pool ≡ false →
+        steps.new ≡ steps.old + (if result then 1 else 0) }
+    ensures few { steps.new ≤ steps.old
+        + (if result then row_steps parts.old.groups.decls pool else 0) }
 {
-    let at = pool as usize;
-    leave(
-        &mut parts.pools[at],
-        &mut parts.destroy[at],
+    withdraw(
+        &mut parts.pools,
+        &mut parts.groups,
+        &mut parts.destroy,
         pool,
         entity,
         steps,
     )
+}
+
+// Takes the row of an identifier out of one of the pools, once its groups are ready for that, and tells
+// of it, where there is one; and says whether there was.
+pub fn withdraw<L: Listener, G: Ledger>(
+    pools: &mut Vec<Storage<Row>>,
+    groups: &mut GroupEngine,
+    destroy: &mut Vec<Signal<L>>,
+    pool: u32,
+    entity: Entity,
+    steps: &mut Steps<G>,
+) -> bool
+    requires declared { pool < length pools.old.items }
+    requires each { length pools.old.items ≡ length destroy.old.items }
+    requires room { HaveRoom pools.old.items destroy.old.items }
+    requires count { groups.old.pools ≡ length pools.old.items }
+    requires grouped { AreGrouped groups.old.decls groups.old.lens (packed_of pools.old.items) }
+    ensures was { result
+        ≡ entries.contains (slice_index_or (maps_of pools.old.items) pool []) entity }
+    ensures maps { maps_of pools.new.items ≡ slice_set (maps_of pools.old.items) pool
+        (entries.remove (slice_index_or (maps_of pools.old.items) pool []) entity) }
+    ensures hearings { destroy.new.items ≡ slice_set destroy.old.items pool
+        (hearings_after pool entity (slice_index_or (maps_of pools.old.items) pool [])
+        (slice_index_or destroy.old.items pool [])) }
+    ensures room { HaveRoom pools.new.items destroy.new.items }
+    ensures groups { KeepGroups groups.old groups.new pools.new.items }
+    ensures stays { OnFalse result (packed_of pools.new.items ≡ packed_of pools.old.items) }
+    ensures packed { AreStill
+        (λ (other : ℕ). entries.contains (slice_index_or (maps_of pools.old.items) pool []) entity
+        && moves groups.old.decls pool other)
+        (popped_in pool entity (packed_of pools.old.items)) (packed_of pools.new.items) }
+    ensures steps { is_named groups.old.decls pool ≡ false →
+        steps.new ≡ steps.old + (if result then 1 else 0) }
+    ensures few { steps.new ≤ steps.old + (if result then row_steps groups.old.decls pool else 0) }
+{
+    let at = pool as usize;
+    if !pools[at].contains(entity) {
+        return false;
+    }
+    groups.before_remove(pools, entity, pool, steps);
+    groups_after_changes(pools[at].values());
+    leave(&mut pools[at], &mut destroy[at], pool, entity, steps);
+    true
 }

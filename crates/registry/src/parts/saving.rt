@@ -8,13 +8,13 @@ ghost use Rattle.world_model.specs.Worlds.{IsLawful};
 ghost use Rattle.registry.specs.Layout.{maps_of, world_of, IsKept};
 
 use super::Parts;
-use super::copying::copy_decls;
+use super::copying::{copy_decls, copy_groups};
 use entity_id::{Entity, OutOfMemory};
 use entity_slots::EntitySlots;
 use signal_sink::Listener;
 use std::alloc::Global;
 use storage::Storage;
-use world_model::{FreeList, GroupList, PoolList, Row, Rows, Slot, SlotList, World};
+use world_model::{FreeList, PoolList, Row, Rows, Slot, SlotList, World};
 
 // The world that the parts stand for, at a tick, rows in ascending index.
 pub fn save<L: Listener>(parts: &Parts<L>, tick: u64) -> Result<World, OutOfMemory>
@@ -24,13 +24,14 @@ pub fn save<L: Listener>(parts: &Parts<L>, tick: u64) -> Result<World, OutOfMemo
 {
     let alloc = *parts.pools.allocator();
     let decls = copy_decls(alloc, &parts.decls)?;
+    let groups = copy_groups(alloc, parts.groups.decls())?;
     let slots = save_slots(alloc, &parts.slots)?;
     let free = save_free(alloc, &parts.slots)?;
     let pools = save_pools(alloc, &parts.pools)?;
     Ok(World {
         profile: parts.profile,
         decls,
-        groups: GroupList::from_vec(Vec::new(alloc)),
+        groups,
         tick,
         slots: SlotList::from_vec(slots),
         free: FreeList::from_vec(free),

@@ -7,7 +7,8 @@ ghost use Rattle.world_model.specs.declared.refusal.Refusal.{Refusal};
 ghost use Rattle.world_model.specs.Components.{fits_kind, has_field};
 ghost use Rattle.world_model.specs.Conditions.{fits_pool};
 ghost use Rattle.world_model.specs.Contents.{has_row};
-ghost use Rattle.registry.specs.Costs.{is_named, row_steps, ClearsWithin};
+ghost use Rattle.group_engine.specs.Grouped.{is_named};
+ghost use Rattle.registry.specs.Costs.{row_steps, ClearsWithin};
 ghost use Rattle.registry.specs.Held.{Does, AsBefore, reply_to, refusal_to};
 ghost use Rattle.registry.specs.Packing.{Repacks};
 
@@ -24,8 +25,10 @@ impl<L: Listener> Registry<L> {
     /// Adds a row to a pool, of which its listeners hear. The row fits the component, where that is
     /// declared (`Decl::fits`). `NoPool`, then `Dead`, then `Present`, exactly where the pool is not
     /// declared, the identifier is not live, and it is in the pool; `OutOfMemory` where none of these
-    /// holds. The identifier stands last in the pool's packed list then. One step, where no group names
-    /// the pool. Takes memory. (EnTT: `registry.emplace<T>(entity, ..)`.)
+    /// holds. The identifier stands last in the pool's packed list then, unless a group owns the pool.
+    /// Each group that names the pool keeps its members first in the pools that it owns, and may
+    /// reorder these; no other packed list changes. One step, and at most one more for each owned pool
+    /// of each group that names the pool. Takes memory. (EnTT: `registry.emplace<T>(entity, ..)`.)
     pub fn emplace<G: Ledger>(
         &mut self,
         entity: Entity,
@@ -53,8 +56,9 @@ impl<L: Listener> Registry<L> {
     /// Adds a row, or replaces the one that is there: listeners hear of a construction or of an
     /// update. The row fits the component, where that is declared. `NoPool`, then `Dead`, exactly
     /// where the pool is not declared and the identifier is not live; `OutOfMemory` where neither
-    /// holds. A row that is added stands last in the pool's packed list, and counts one step where no
-    /// group names the pool. Takes memory. (EnTT: `registry.emplace_or_replace<T>(entity, ..)`.)
+    /// holds. For a row that is added the packed lists and the steps are those of
+    /// [`Registry::emplace`]; one that is replaced changes no packed list and counts no step. Takes
+    /// memory. (EnTT: `registry.emplace_or_replace<T>(entity, ..)`.)
     pub fn emplace_or_replace<G: Ledger>(
         &mut self,
         entity: Entity,
@@ -126,9 +130,9 @@ impl<L: Listener> Registry<L> {
 
     /// Removes a row, where there is one: 1 then, once its listeners heard of its destruction, and
     /// else 0. `NoPool`, then `Dead`, exactly where the pool is not declared and the identifier is
-    /// not live. The last identifier of the pool's packed list takes the place of the one that goes.
-    /// One step for a row removed, where no group names the pool. No memory. (EnTT:
-    /// `registry.remove<T>(entity)`.)
+    /// not live. The packed lists are those of [`Registry::erase`] where a row goes, and else stay. One
+    /// step for a row removed, and at most one more for each owned pool of each group that names the
+    /// pool. No memory. (EnTT: `registry.remove<T>(entity)`.)
     pub fn remove<G: Ledger>(
         &mut self,
         entity: Entity,
@@ -152,8 +156,10 @@ impl<L: Listener> Registry<L> {
     /// Removes a row that has to be there, once its listeners heard of its destruction. `NoPool`,
     /// then `Dead`, then `Absent`, exactly where the pool is not declared, the identifier is not
     /// live, and it is not in the pool. The last identifier of the pool's packed list takes the place
-    /// of the one that goes. One step, where no group names the pool. No memory. (EnTT:
-    /// `registry.erase<T>(entity)`.)
+    /// of the one that goes, unless a group owns the pool. Each group that names the pool keeps its
+    /// members first in the pools that it owns, and may reorder these; no other packed list changes.
+    /// One step, and at most one more for each owned pool of each group that names the pool. No
+    /// memory. (EnTT: `registry.erase<T>(entity)`.)
     pub fn erase<G: Ledger>(
         &mut self,
         entity: Entity,
@@ -174,10 +180,12 @@ impl<L: Listener> Registry<L> {
     }
 
     /// Removes every row of a pool, and answers how many there were: listeners hear of each row's
-    /// destruction, in ascending index. `NoPool` exactly where the pool is not declared. The packed
-    /// list is put in order by exchanges, by way of a binary heap: of `n` rows, fewer than `2 ^
-    /// depth`, it counts at most `n * (2 * depth + 1)` steps, where no group names the pool. No
-    /// memory. (EnTT: `registry.clear<T>()`, which walks in packed order.)
+    /// destruction, in ascending index. `NoPool` exactly where the pool is not declared. Each group that
+    /// names the pool keeps its members first in the pools that it owns, and may reorder these; no
+    /// other packed list changes. The pool's own is put in order by exchanges, by way of a binary
+    /// heap: of `n` rows, fewer than `2 ^ depth`, it counts at most `n * (2 * depth + 1)` steps, and
+    /// for each row one more for each owned pool of each group that names the pool. No memory. (EnTT:
+    /// `registry.clear<T>()`, which walks in packed order.)
     pub fn clear_pool<G: Ledger>(&mut self, pool: u32, steps: &mut Steps<G>) -> Result<u32, Refusal>
         ensures does { Does self.old self.new (Clear pool) }
         ensures ok { IfOk result (λ count. reply_to self.old (Clear pool) ≡ Number count) }

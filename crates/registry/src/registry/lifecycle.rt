@@ -7,10 +7,12 @@ ghost use Rattle.world_model.specs.declared.command.Command.TheVariants.{Create,
 ghost use Rattle.world_model.specs.declared.command.Reply.TheVariants.{Done, Made, Refused, Truth};
 ghost use Rattle.world_model.specs.declared.refusal.Refusal.{Refusal};
 ghost use Rattle.world_model.specs.Components.{IsDecl};
+ghost use Rattle.world_model.specs.Contents.{keys_of};
 ghost use Rattle.world_model.specs.Worlds.{IsLawful, component_limit, empty_world};
+ghost use Rattle.group_engine.specs.Grouped.{AreStill};
 ghost use Rattle.registry.specs.Costs.{destroy_steps};
 ghost use Rattle.registry.specs.Held.{unheard, Does, AsBefore, reply_to, refusal_to};
-ghost use Rattle.registry.specs.Packing.{Repacks};
+ghost use Rattle.registry.specs.Packing.{is_owned, Repacks};
 ghost use Rattle.registry.specs.Running.{hint_needs_slot};
 
 use super::Registry;
@@ -39,33 +41,35 @@ impl<L: Listener> Registry<L> {
         requires few { vec_len decls ≤ component_limit }
         requires decls { AllByRecursion IsDecl decls.items }
         ensures { IfOk result (λ registry.
-            registry ≡ unheard slot_limit (empty_world profile decls.items)) }
+            registry ≡ unheard slot_limit (empty_world profile decls.items)
+            (keys_of (empty_world profile decls.items))) }
     {
         let parts = making::new(alloc, profile, slot_limit, DeclList::from_vec(decls))?;
         Ok(Registry { parts })
     }
 
-    /// A registry of a lawful world that has no groups, within the slot limit: its components,
-    /// entities and rows, and no listener. It keeps the allocator, and not the world's tick.
-    /// `OutOfMemory` where there is no memory for them. (EnTT: `entt::snapshot_loader`, whose
-    /// registry has to be empty.)
+    /// A registry of a lawful world, within the slot limit: its components, entities, rows and groups,
+    /// and no listener. A pool that no group owns is packed in ascending index; in one that groups own
+    /// their members stand first ([`Registry::law`]). It keeps the allocator, and not the world's tick.
+    /// `OutOfMemory` where there is no memory for them. (EnTT: `entt::snapshot_loader`, whose registry
+    /// has to be empty, and `registry.group` for each group.)
     pub fn load(alloc: Global, world: &World, slot_limit: u32) -> Result<Registry<L>, OutOfMemory>
-        requires lawful { IsLawful slot_limit world.now }
-        requires ungrouped { world.now.groups ≡ [] }
-        ensures { IfOk result (λ registry.
-            registry ≡ unheard slot_limit (record world.now { tick = 0 })) }
+        requires { IsLawful slot_limit world.now }
+        ensures world { IfOk result (λ registry.
+            registry ≡ unheard slot_limit (record world.now { tick = 0 }) registry.packed) }
+        ensures still { IfOk result (λ registry.
+            AreStill (is_owned world.now.groups) (keys_of world.now) registry.packed) }
     {
         let parts = loading::load(alloc, world, slot_limit)?;
         Ok(Registry { parts })
     }
 
-    /// The world that it stands for, at a tick, rows in ascending index. The world is a lawful one
-    /// within the slot limit, and has no groups, so [`Registry::load`] takes it. `OutOfMemory` where
-    /// there is no memory for it. (EnTT: `entt::snapshot`.)
+    /// The world that it stands for, with its groups, at a tick, rows in ascending index. The world is
+    /// a lawful one within the slot limit, so [`Registry::load`] takes it. `OutOfMemory` where there is
+    /// no memory for it. (EnTT: `entt::snapshot`.)
     pub fn save(&self, tick: u64) -> Result<World, OutOfMemory>
         ensures world { IfOk result (λ world. world ≡ record self.now.world { tick = tick }) }
         ensures lawful { IfOk result (λ world. IsLawful self.now.limit world) }
-        ensures ungrouped { IfOk result (λ world. world.groups ≡ []) }
     {
         saving::save(&self.parts, tick)
     }
@@ -110,8 +114,10 @@ impl<L: Listener> Registry<L> {
     /// Takes an entity out of every pool, the last one first, and its identifier out of use. Each
     /// listener of a pool that it leaves hears of its row's destruction once. `Dead` exactly where it
     /// is not live. At each pool that it is in, the last identifier of the packed list takes its
-    /// place: at most one step for each, where no group names the pool. No memory. (EnTT:
-    /// `registry.destroy(entity)`.)
+    /// place, unless a group owns the pool. Each group that names one of these pools keeps its members
+    /// first in the pools that it owns, and may reorder these; no other packed list changes. At most
+    /// one step for each pool that it is in, and one for each owned pool of each group that names
+    /// that. No memory. (EnTT: `registry.destroy(entity)`.)
     pub fn destroy<G: Ledger>(
         &mut self,
         entity: Entity,

@@ -1,6 +1,6 @@
 //! Registries made, saved and loaded, and entities made and destroyed.
 
-ghost use Rattle.std.specs.Prelude.{◌≡◌, ◌<◌, [], IfOk};
+ghost use Rattle.std.specs.Prelude.{◌<◌, IfOk};
 ghost use Rattle.world_model.specs.Worlds.{IsLawful};
 
 use super::samples::{FIRST, SECOND, Sample, entity, number, sample_world, two_numbers};
@@ -111,18 +111,15 @@ fn a_saved_world_loads_again(rt: HostRuntime) -> Result<(), Fail> {
 
 // The sample world, loaded and saved.
 fn saved(alloc: Global) -> Result<World, Fail>
-    ensures lawful { IfOk result (λ world. IsLawful 4 world) }
-    ensures ungrouped { IfOk result (λ world. world.groups ≡ []) }
+    ensures { IfOk result (λ world. IsLawful 4 world) }
 {
     saved_again(alloc, &sample_world(alloc)?)
 }
 
 // A world, loaded and saved.
 fn saved_again(alloc: Global, world: &World) -> Result<World, Fail>
-    requires lawful { IsLawful 4 world.now }
-    requires ungrouped { world.now.groups ≡ [] }
-    ensures lawful { IfOk result (λ saved. IsLawful 4 saved) }
-    ensures ungrouped { IfOk result (λ saved. saved.groups ≡ []) }
+    requires { IsLawful 4 world.now }
+    ensures { IfOk result (λ saved. IsLawful 4 saved) }
 {
     let registry: Registry<Recorder> = Registry::load(alloc, world, 4)?;
     Ok(registry.save(7)?)

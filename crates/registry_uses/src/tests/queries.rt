@@ -75,7 +75,8 @@ impl Sample {
     }
 }
 
-fn pools(alloc: Global, numbers: &[u32]) -> Result<Pools, Fail>
+// A list of pools.
+pub fn pools(alloc: Global, numbers: &[u32]) -> Result<Pools, Fail>
     ensures { IfOk result (λ pools. pools ≡ numbers.now) }
 {
     Ok(Pools::from_vec(Vec::from_slice(alloc, numbers)?))

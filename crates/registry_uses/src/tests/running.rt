@@ -1,11 +1,13 @@
 //! Commands carried out, and what they are answered.
 
-ghost use Rattle.std.specs.Prelude.{◌≡◌, ◌<◌, IsTrue};
-ghost use Rattle.registry.specs.Running.{is_served};
+ghost use Rattle.std.specs.Prelude.{◌≡◌, ◌<◌};
 ghost use Rattle.registry_uses.specs.Samples.{IsPlayable};
 
+use super::groups::group;
 use super::samples::{FIRST, SECOND, Sample, entity, number};
+use entity_id::{Entities, Entity};
 use sparse_set::Steps;
+use std::alloc::Global;
 use std::marker::Brand;
 use std::process::Abort;
 use std::sync::ledger::{Blank, Ledger};
@@ -14,8 +16,7 @@ use world_model::{Command, Refusal, Reply};
 
 impl Sample {
     fn runs(&mut self, rt: &impl Abort, command: Command, wanted: Reply)
-        requires asked { IsPlayable command }
-        requires served { IsTrue (is_served command) }
+        requires { IsPlayable command }
     {
         let reply = self.run::<Brand>(Blank::new(1), command);
         assert!(rt; is_same(&reply, &wanted), "{reply:?}");
@@ -23,7 +24,6 @@ impl Sample {
 
     fn run<G: Ledger>(&mut self, blank: Blank, command: Command) -> Reply
         requires asked { IsPlayable command }
-        requires served { IsTrue (is_served command) }
         requires name { blank.name ≡ G.name }
         requires parts { blank.parts ≡ G.parts }
         requires some { 0 < blank.parts }
@@ -39,6 +39,8 @@ fn is_same(reply: &Reply, wanted: &Reply) -> bool {
         (Reply::Done, Reply::Done) => true,
         (Reply::Made(made), Reply::Made(other)) => made == other,
         (Reply::Number(count), Reply::Number(other)) => count == other,
+        (Reply::GroupNumber(group), Reply::GroupNumber(other)) => group == other,
+        (Reply::Listed(list), Reply::Listed(other)) => list.as_slice() == other.as_slice(),
         (Reply::Refused(cause), Reply::Refused(other)) => cause == other,
         _ => false,
     }
@@ -70,4 +72,41 @@ fn a_destruction_by_its_command_is_carried_out(rt: HostRuntime) -> Result<(), Fa
     let again = Command::Destroy { entity: FIRST };
     sample.runs(&rt, again, Reply::Refused(Refusal::Dead));
     sample.has_told(&rt, &[], &[], &[FIRST])
+}
+
+#[test]
+fn groups_and_sorts_by_their_commands_are_carried_out(rt: HostRuntime) -> Result<(), Fail> {
+    let mut sample = Sample::load(rt.alloc())?;
+    let decl = group(rt.alloc(), &[1], &[], &[])?;
+    sample.runs(
+        &rt,
+        Command::SortPool { pool: 1, field: 0 },
+        listed(rt.alloc(), &[FIRST, SECOND])?,
+    );
+    sample.lists(&rt, 1, Ok(&[SECOND, FIRST]));
+    sample.runs(&rt, Command::Group { decl }, Reply::GroupNumber(0));
+    sample.runs(
+        &rt,
+        Command::Members { group: 0 },
+        listed(rt.alloc(), &[FIRST, SECOND])?,
+    );
+    let sorted = Command::SortGroup {
+        group: 0,
+        pool: 1,
+        field: 0,
+    };
+    sample.runs(&rt, sorted, listed(rt.alloc(), &[FIRST, SECOND])?);
+    sample.has_members(&rt, 0, Ok(&[SECOND, FIRST]));
+    let owned = Command::SortPool { pool: 1, field: 0 };
+    sample.runs(&rt, owned, Reply::Refused(Refusal::Owned { by: 0 }));
+    sample.runs(
+        &rt,
+        Command::Members { group: 1 },
+        Reply::Refused(Refusal::NoGroup),
+    );
+    Ok(())
+}
+
+fn listed(alloc: Global, entities: &[Entity]) -> Result<Reply, Fail> {
+    Ok(Reply::Listed(Entities::from_vec(Vec::from_slice(alloc, entities)?)))
 }

@@ -68,7 +68,6 @@ fn one_number(alloc: Global) -> Decl
 // is free.
 pub fn sample_world(alloc: Global) -> Result<World, Fail>
     ensures lawful { IfOk result (λ world. IsLawful 4 world) }
-    ensures ungrouped { IfOk result (λ world. world.groups ≡ []) }
     ensures decls { IfOk result (λ world. world.decls ≡ sample_components) }
 {
     let slots = [slot(0, true), slot(5, false), slot(3, true)];

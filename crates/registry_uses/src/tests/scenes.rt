@@ -54,6 +54,30 @@ fn move_in<G: Ledger>(rt: &impl Abort, alloc: Global, blank: Blank)
 }
 
 #[test]
+fn members_move_as_all_that_move_do(rt: HostRuntime) {
+    walk_in::<Brand>(&rt, rt.alloc(), Blank::new(1));
+}
+
+fn walk_in<G: Ledger>(rt: &impl Abort, alloc: Global, blank: Blank)
+    requires name { blank.name ≡ G.name }
+    requires parts { blank.parts ≡ G.parts }
+    requires some { 0 < blank.parts }
+{
+    let mut steps = Steps::<G>::new(blank);
+    let mut registry = scene(rt, alloc);
+    let frozen = spawn(&mut registry, 8, 8, &mut steps).expect(rt, "memory");
+    let first = spawn(&mut registry, 3, -4, &mut steps).expect(rt, "memory");
+    assert_eq!(rt; steer(&mut registry, frozen, 1, 1, &mut steps), Ok(()));
+    assert_eq!(rt; steer(&mut registry, first, 1, 2, &mut steps), Ok(()));
+    assert_eq!(rt; set_frozen(&mut registry, frozen, true, &mut steps), Ok(()));
+    let group = group_moving(alloc, &mut registry, &mut steps).expect(rt, "memory");
+    assert_eq!(rt; registry.members(group), Ok([first].as_slice()));
+    assert_eq!(rt; advance_members(&mut registry), Ok(()));
+    assert_eq!(rt; registry.get(first, POSITION), Ok(row(4, -2)));
+    assert_eq!(rt; registry.get(frozen, POSITION), Ok(row(8, 8)));
+}
+
+#[test]
 fn a_stale_identifier_is_refused(rt: HostRuntime) {
     end_in::<Brand>(&rt, rt.alloc(), Blank::new(1));
 }

@@ -1,8 +1,9 @@
 //! Lines of scripts through the calls of the libraries: read, carried out on a registry, and answered.
 
 ghost use Rattle.std.specs.Prelude.{◌≡◌, ◌<◌, ◌≤◌};
+ghost use Rattle.std.specs.List.{AllByRecursion};
 ghost use Rattle.entity_id.specs.Identifiers.{p20_12};
-ghost use Rattle.world_text.specs.Documents.{AreNamedDecls, IsLawfulDocument};
+ghost use Rattle.world_text.specs.Documents.{AreNamedDecls, HasAscendingLists, IsLawfulDocument};
 ghost use Rattle.world_text.specs.Formats.{tick_limit, version_1};
 
 use super::*;
@@ -67,9 +68,11 @@ fn answer_all<G: Ledger>(
     requires named { AreNamedDecls decls.now }
     requires decls { registry.old.world.decls ≡ decls.now }
     requires profile { registry.old.world.profile ≡ p20_12 }
+    requires ascending { AllByRecursion HasAscendingLists registry.old.world.groups }
     ensures decls { registry.new.world.decls ≡ registry.old.world.decls }
     ensures profile { registry.new.world.profile ≡ registry.old.world.profile }
     ensures limit { registry.new.limit ≡ registry.old.limit }
+    ensures ascending { AllByRecursion HasAscendingLists registry.new.world.groups }
 {
     for line in lines {
         answer(alloc, registry, decls, line, out, steps)?;
@@ -81,6 +84,7 @@ fn answer_all<G: Ledger>(
 fn print(registry: &Registry<Recorder>, tick: u64, out: &mut Vec<u8>) -> Result<(), Fail>
     requires named { AreNamedDecls registry.now.world.decls }
     requires profile { registry.now.world.profile ≡ p20_12 }
+    requires ascending { AllByRecursion HasAscendingLists registry.now.world.groups }
     requires limit { registry.now.limit ≡ version_1.slot_limit }
     requires tick { tick ≤ tick_limit }
 {
@@ -101,9 +105,11 @@ fn answer<G: Ledger>(
     requires named { AreNamedDecls decls.now }
     requires decls { registry.old.world.decls ≡ decls.now }
     requires profile { registry.old.world.profile ≡ p20_12 }
+    requires ascending { AllByRecursion HasAscendingLists registry.old.world.groups }
     ensures decls { registry.new.world.decls ≡ registry.old.world.decls }
     ensures profile { registry.new.world.profile ≡ registry.old.world.profile }
     ensures limit { registry.new.limit ≡ registry.old.limit }
+    ensures ascending { AllByRecursion HasAscendingLists registry.new.world.groups }
 {
     let command = read_command(alloc, line, decls)?;
     let reply = registry.run(&command, steps);
@@ -114,7 +120,7 @@ fn answer<G: Ledger>(
 #[test]
 fn each_command_is_read_carried_out_and_answered(rt: HostRuntime) -> Result<(), Fail> {
     let document = b"world 1\ncomponent a int\ntick 0\nlive 0\npool a\nend\n";
-    let lines: [&[u8]; 17] = [
+    let lines: [&[u8]; 21] = [
         b"emplace 0:0 a 4",
         b"emplace 0:0 a 5",
         b"get 0:0 a",
@@ -129,6 +135,10 @@ fn each_command_is_read_carried_out_and_answered(rt: HostRuntime) -> Result<(), 
         b"emplace_or_replace 0:0 a 2",
         b"all_of 0:0 a",
         b"any_of 9:0 a",
+        b"sort pool a.0",
+        b"group own a",
+        b"members 0",
+        b"sort group 0 a.0",
         b"clear a",
         b"alive",
         b"size",
@@ -137,8 +147,8 @@ fn each_command_is_read_carried_out_and_answered(rt: HostRuntime) -> Result<(), 
     assert_eq!(rt;
         out.as_slice(),
         b"ok\npresent\nrow 4\nok\nok\nrow 7\nremoved 1\nabsent\nremoved 0\nabsent\nyes\nok\nyes\ndead\n\
-        cleared 1\nalive 1\nsize 1\n\
-        world 1\ncomponent a int\ntick 0\nlive 0\npool a\nend\n"
+        sorted 0:0\ngroup 0\nmembers 0:0\nsorted 0:0\ncleared 1\nalive 1\nsize 1\n\
+        world 1\ncomponent a int\ngroup own a\ntick 0\nlive 0\npool a\nend\n"
             .as_slice()
     );
     Ok(())

@@ -37,7 +37,7 @@ fn how_many_are_read(alloc: Global, lines: &[&[u8]], decls: &[Decl]) -> usize
 
 #[test]
 fn lines_of_a_script_have_their_form(rt: HostRuntime) -> Result<(), Fail> {
-    let taken: [&[u8]; 21] = [
+    let taken: [&[u8]; 26] = [
         b"create",
         b"hint 1048575:0",
         b"hint null",
@@ -59,8 +59,13 @@ fn lines_of_a_script_have_their_form(rt: HostRuntime) -> Result<(), Fail> {
         b"view a",
         b"view b a",
         b"view b not a",
+        b"group own a",
+        b"group own b a get a not b",
+        b"members 4294967295",
+        b"sort pool b.1",
+        b"sort group 0 a.0",
     ];
-    let refused: [&[u8]; 21] = [
+    let refused: [&[u8]; 26] = [
         b"",
         b"create ",
         b" create",
@@ -82,12 +87,17 @@ fn lines_of_a_script_have_their_form(rt: HostRuntime) -> Result<(), Fail> {
         b"view a not a",
         b"watch update a",
         b"unwatch 0",
+        b"group get a",
+        b"group own a a",
+        b"members 4294967296",
+        b"sort pool b.0",
+        b"sort group a.0",
     ];
     let read = read_world(rt.alloc(), DOCUMENT);
     assert!(rt; read.is_ok());
     if let Ok(document) = read {
         let decls = document.world.decls.as_slice();
-        assert_eq!(rt; how_many_are_read(rt.alloc(), &taken, decls), 21);
+        assert_eq!(rt; how_many_are_read(rt.alloc(), &taken, decls), 26);
         assert_eq!(rt; how_many_are_read(rt.alloc(), &refused, decls), 0);
     }
     Ok(())

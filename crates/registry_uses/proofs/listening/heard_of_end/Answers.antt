@@ -1,4 +1,4 @@
-use Rattle.std.proofs.Common.{◌≡◌, ◌∙◌, [], ◌∷◌, ◌++◌, Some, ◌≢◌, rules, refl, ap}
+use Rattle.std.proofs.Common.{◌≡◌, ◌∙◌, [], ◌∷◌, ◌++◌, Some, ◌≢◌, rules, refl, ap, map}
 use Rattle.std.proofs.lemmas.Bool.{both_ways}
 use Rattle.signal_sink.specs.Hearings.{Hearing, heard_lists}
 use Rattle.world_model.specs.declared.command.Command.TheVariants.{Destroy}
@@ -8,6 +8,8 @@ use Rattle.world_model.specs.Orders.{is_refused}
 use Rattle.registry.specs.Listeners.{listeners_at}
 use Rattle.registry_uses.specs.declared.beginning.TheConstants.{POSITION}
 use Rattle.registry_uses.specs.Scenes.{IsScene}
+use Rattle.registry.specs.Packing.{popped}
+use Rattle.registry_uses.proofs.PackedLemmas.{nothing_moves}
 use Rattle.registry_uses.proofs.RecorderLemmas.{heard_of_place, one_used, still_connected}
 use Rattle.registry_uses.proofs.SceneLemmas.{dead_reply, scene_after, scene_stays, was_done}
 use Rattle.registry_uses.proofs.listening.heard_of_end.Goals as goal
@@ -67,3 +69,9 @@ pub returns-in_err-recorder-clause-same_order : goal.returns-in_err-recorder-cla
 returns-in_err-recorder-clause-same_order g c =
     let connected : heard_lists (listeners_at c.connect.new.self event.Destroy POSITION) ≡ heard_lists (listeners_at c.args.registry.now event.Destroy POSITION) ++ Some [] ∷ [] = c.in-Ok.ensures.heard ∙ ap (λ (h : Hearing). heard_lists (listeners_at c.args.registry.now event.Destroy POSITION) ++ Some h.heard ∷ []) c.new.ensures in
     absurd (both_ways _ c.in_err-recorder.ensures.unknown (still_connected c.args.registry.now c.connect.new.self c.destroy-ended.new.self c.args.entity c.in-Ok.number c.in-Ok.ensures.number connected c.destroy-ended.ensures.does))
+
+pub returns-clause-packed : goal.returns-clause-packed
+returns-clause-packed g c =
+    let heard : IsScene c.connect.new.self = scene_stays c.args.registry.now c.connect.new.self c.requires c.in-Ok.ensures.rewired.limit c.in-Ok.ensures.rewired.world in
+    let gone = c.packing_without_groups.ensures c.connect.new.self c.destroy-ended.new.self (Destroy c.args.entity) (nothing_moves c.connect.new.self (Destroy c.args.entity) heard.groups refl) c.in_ok-ended.ensures.packed in
+    c.disconnect.ensures.rewired.packed ∙ gone ∙ ap (map (popped c.args.entity)) c.in-Ok.ensures.rewired.packed

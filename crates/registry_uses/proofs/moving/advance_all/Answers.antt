@@ -5,6 +5,7 @@ use Rattle.entity_id.specs.declared.entity.Entity.{Entity}
 use Rattle.entity_id.specs.FiniteMap.{AreAscending}
 use Rattle.entity_id.specs.FiniteMap as rows
 use Rattle.entity_id.specs.Identifiers.{is_same}
+use Rattle.entity_id.specs.Matching.{matches}
 use Rattle.entity_id.proofs.MatchLemmas.{any-matches}
 use Rattle.std.specs.List.{list_any}
 use Rattle.world_model.specs.declared.command.Command.TheVariants.{Replace}
@@ -43,7 +44,8 @@ pub returns-clause-ok : goal.returns-clause-ok
 returns-clause-ok g c =
     let so_far = c.loop-entity.invariant in
     let whole = take_all c.loop-entity.entity-index c.as_slice-entity-items.result.now c.loop-entity-test.false ∙ so_far.listed in
-    all_moved c.args.registry.now.world c.loop-entity.registry.world (subst (HaveMoved c.args.registry.now.world c.loop-entity.registry.world) whole so_far.moved)
+    let old = c.args.registry.now.world in
+    all_moved old c.loop-entity.registry.world (matches (keys_of old) (POSITION ∷ VELOCITY ∷ []) (FROZEN ∷ [])) (subst (HaveMoved old c.loop-entity.registry.world) whole so_far.moved) (any-matches (keys_of old) POSITION (VELOCITY ∷ []) (FROZEN ∷ []))
 
 pub returns-in_err-advance-clause-cause : goal.returns-in_err-advance-clause-cause
 returns-in_err-advance-clause-cause g c =

@@ -11,6 +11,7 @@ use Rattle.world_model.proofs.LivingLemmas.{lives_on}
 use Rattle.world_model.proofs.ReplyLemmas.{made_is_known}
 use Rattle.registry.proofs.ResultLemmas.{if_ok, then_err, then_ok}
 use Rattle.registry_uses.specs.Scenes.{IsScene}
+use Rattle.registry_uses.proofs.PackedLemmas.{nothing_moves}
 use Rattle.registry_uses.proofs.RenewalLemmas.{made_world, never_refused, other_version, renewed, still_dead}
 use Rattle.registry_uses.proofs.SequenceLemmas.{does_both}
 use Rattle.registry_uses.proofs.SceneLemmas.{always_ok, done_by, if_both, lawful_after, no_refusal, of_destroys, on_both, scene_after, scene_by, was_done}
@@ -64,7 +65,11 @@ returns-clause-does g c =
     then_ok c.create.result c.create.ensures.ok (λ does. does_both c.args.registry.now c.destroy.new.self c.create.new.self (Destroy c.args.entity) Create c.destroy.ensures.does does)
 
 pub returns-clause-packed : goal.returns-clause-packed
-returns-clause-packed g c = then_ok c.create.result c.create.ensures.packed (λ stays. stays ∙ c.in_ok-destroy.ensures.packed)
+returns-clause-packed g c =
+    let old = c.args.registry.now in
+    let mid = c.destroy.new.self in
+    let gone = c.packing_without_groups.ensures old mid (Destroy c.args.entity) (nothing_moves old (Destroy c.args.entity) c.requires.groups refl) c.in_ok-destroy.ensures.packed in
+    then_ok c.create.result c.create.ensures.packed (λ stays. c.packing_without_groups.ensures mid c.create.new.self Create (λ pool. refl) stays ∙ gone)
 
 pub returns-clause-answer : goal.returns-clause-answer
 returns-clause-answer g c =

@@ -12,8 +12,10 @@ use Rattle.world_model.specs.Steps.{step}
 use Rattle.world_model.proofs.LivingLemmas.{lives_on}
 use Rattle.registry_uses.specs.declared.beginning.TheConstants.{POSITION}
 use Rattle.registry_uses.specs.Scenes.{next_made, pair, DoesAll, IsScene}
+use Rattle.registry.proofs.ResultLemmas.{then_ok}
+use Rattle.registry.specs.Packing.{appended_in}
 use Rattle.registry_uses.proofs.SequenceLemmas.{does_alone, does_both}
-use Rattle.registry_uses.proofs.PackedLemmas.{same_order}
+use Rattle.registry_uses.proofs.PackedLemmas.{same_order, nothing_moves}
 use Rattle.registry_uses.proofs.RenewalLemmas.{made_is, new_may_enter, same_live, same_rows}
 use Rattle.registry_uses.proofs.RowLemmas.{pair_given, set_is_told}
 use Rattle.registry_uses.proofs.SceneLemmas.{is_declared, lawful_after, scene_after, scene_as_before, was_done}
@@ -83,8 +85,13 @@ returns-in-Err-clause-rows g c =
 
 pub returns-in-Err-clause-same_order : goal.returns-in-Err-clause-same_order
 returns-in-Err-clause-same_order g c =
-    same_order c.args.registry.now c.emplace.new.self c.destroy.new.self c.in_ok-entity.entity c.destroy.result c.law.ensures c.in_ok-entity.ensures.reply
-    (c.in-Err.ensures.err.packed ∙ c.in_ok-entity.ensures.packed) c.destroy.ensures.packed c.destroy.ensures.unchanged
+    let old = c.args.registry.now in
+    let entity = c.in_ok-entity.entity in
+    let made : IsScene c.create.new.self = scene_after old c.create.new.self Create c.requires refl c.in_ok-entity.ensures.ok in
+    let back : IsScene c.emplace.new.self = scene_as_before c.create.new.self c.emplace.new.self made c.in-Err.ensures.err in
+    let stays = c.packing_without_groups.ensures old c.create.new.self Create (λ pool. refl) c.in_ok-entity.ensures.packed in
+    let gone = then_ok c.destroy.result c.destroy.ensures.packed (c.packing_without_groups.ensures c.emplace.new.self c.destroy.new.self (Destroy entity) (nothing_moves c.emplace.new.self (Destroy entity) back.groups refl)) in
+    same_order old c.emplace.new.self c.destroy.new.self entity c.destroy.result c.law.ensures c.in_ok-entity.ensures.reply (c.in-Err.ensures.err.packed ∙ stays) gone c.destroy.ensures.unchanged
 
 pub returns-in-Ok-clause-refused : goal.returns-in-Ok-clause-refused
 returns-in-Ok-clause-refused g c cause is =
@@ -95,3 +102,13 @@ pub returns-in-Err-clause-refused : goal.returns-in-Err-clause-refused
 returns-in-Err-clause-refused g c cause is =
     let old = c.args.registry.now in
     absurd (none-some cause (sym (made_is old.limit old.world c.in_ok-entity.entity c.in_ok-entity.ensures.reply).1 ∙ is))
+
+pub returns-in-Ok-clause-packed : goal.returns-in-Ok-clause-packed
+returns-in-Ok-clause-packed g c =
+    let old = c.args.registry.now in
+    let entity = c.in_ok-entity.entity in
+    let command = Emplace entity POSITION c.pair_of.result in
+    let made : IsScene c.create.new.self = scene_after old c.create.new.self Create c.requires refl c.in_ok-entity.ensures.ok in
+    let stays = c.packing_without_groups.ensures old c.create.new.self Create (λ pool. refl) c.in_ok-entity.ensures.packed in
+    c.packing_without_groups.ensures c.create.new.self c.emplace.new.self command (nothing_moves c.create.new.self command made.groups refl) c.in-Ok.ensures.packed
+    ∙ ap (appended_in POSITION entity) stays

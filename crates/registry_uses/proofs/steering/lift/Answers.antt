@@ -7,7 +7,7 @@ use Rattle.world_model.specs.Orders.{is_refused}
 use Rattle.world_model.specs.Refusing.{when_absent}
 use Rattle.registry.specs.Held.{Does, reply_to}
 use Rattle.registry.proofs.DoneLemmas.{same}
-use Rattle.registry.proofs.ResultLemmas.{all_err, both_ok}
+use Rattle.registry.proofs.ResultLemmas.{all_err, both_ok, then_ok}
 use Rattle.registry_uses.specs.declared.beginning.TheConstants.{POSITION}
 use Rattle.registry_uses.specs.Moving.{lifted_height}
 use Rattle.registry_uses.proofs.RowLemmas.{given, set_is_told}
@@ -41,3 +41,7 @@ returns-clause-lifted g c =
     (subst (λ (z : ℤ). OnOk c.patch.result (reply_to old (Patch c.args.entity POSITION 1 z) ≡ Done)) height c.patch.ensures.reply) (λ does reply.
     let done = was_done old c.patch.new.self (Patch c.args.entity POSITION 1 lifted) does (ap is_refused reply) in
     set_is_told old c.patch.new.self c.args.entity POSITION (with_field (row_at old.world POSITION c.args.entity) 1 lifted) (when_absent old.world POSITION c.args.entity) c.law.ensures.world done.passes done.world)
+
+pub returns-clause-packed : goal.returns-clause-packed
+returns-clause-packed g c =
+    then_ok c.patch.result c.patch.ensures.packed (c.packing_without_groups.ensures c.args.registry.now c.patch.new.self _ (λ pool. refl))

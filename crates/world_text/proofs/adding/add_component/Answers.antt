@@ -5,8 +5,10 @@ use Rattle.world_text.specs.declared.section.Section.TheVariants as section
 use Rattle.world_text.specs.Sections.{is_between}
 use Rattle.std.specs.List.{list_any}
 use Rattle.world_text.specs.Meaning.{decl_in, slot_in, next_in}
-use Rattle.world_text.proofs.MeaningLemmas.{gains, keeps, last_section_push, pools_in-other}
+use Rattle.world_text.proofs.MeaningLemmas.{gains, keeps, groups_before, no_group_yet, last_section_push, pools_in-other}
 use Rattle.world_text.proofs.SettledLemmas.{settled_same}
+use Rattle.world_text.specs.Documents.{are_named_apart}
+use Rattle.world_text.proofs.NameLemmas.{apart_push}
 use Rattle.world_text.proofs.AddingLemmas.{and_true, below_test, not_true, placed_at, kept_tick}
 use Rattle.world_text.proofs.adding.add_component.Goals as goal
 
@@ -23,6 +25,7 @@ returns-clause-ok c =
           record {
             section = sym (last_section_push before l p.high);
             decls = c.in_ok-push.ensures.items ∙ gains decl_in before l _ s.decls;
+            groups = s.groups ∙ groups_before before c.args.decl (no_group_yet before (omega (arith, p.high)));
             tick = s.tick ∙ kept_tick before l refl;
             slots = keeps slot_in before l _ refl s.slots;
             free = keeps next_in before l _ refl s.free;
@@ -30,3 +33,8 @@ returns-clause-ok c =
             pools = s.pools ∙ sym (pools_in-other _ before l tt);
           };
     }
+
+pub invariant_of-draft-2-clause-apart : goal.invariant_of-draft-2-clause-apart
+invariant_of-draft-2-clause-apart c =
+    let is_new : list_any (has_name c.args.decl.name) c.args.draft.now.decls.items ≡ false = search rules in
+    ap are_named_apart c.in_ok-push.ensures.items ∙ apart_push c.args.draft.now.decls.items c.args.decl c.args.draft.now.apart is_new

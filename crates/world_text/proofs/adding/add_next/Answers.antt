@@ -3,7 +3,7 @@ use Rattle.world_text.specs.LineKinds as line
 use Rattle.world_text.specs.declared.section.Section.TheVariants as section
 use Rattle.world_text.specs.Sections.{is_between}
 use Rattle.world_text.specs.Meaning.{decl_in, slot_in, next_in}
-use Rattle.world_text.proofs.MeaningLemmas.{gains, keeps, last_section_push, pools_in-other}
+use Rattle.world_text.proofs.MeaningLemmas.{gains, keeps, groups_keep, last_section_push, pools_in-other}
 use Rattle.world_text.proofs.SettledLemmas.{settled_next, unlisted_by_flag}
 use Rattle.world_text.proofs.AddingLemmas.{and_true, and_false_right, not_true, placed_at, kept_tick}
 use Rattle.world_text.proofs.adding.add_next.Goals as goal
@@ -21,6 +21,7 @@ returns-clause-ok c =
           record {
             section = sym (last_section_push before l p.high);
             decls = keeps decl_in before l _ refl s.decls;
+            groups = s.groups ∙ groups_keep before l refl refl;
             tick = s.tick ∙ kept_tick before l refl;
             slots = keeps slot_in before l _ refl s.slots;
             free = c.in_ok-push.ensures.items ∙ gains next_in before l _ s.free;

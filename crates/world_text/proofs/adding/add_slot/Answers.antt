@@ -3,7 +3,7 @@ use Rattle.world_text.specs.LineKinds as line
 use Rattle.world_text.specs.declared.section.Section.TheVariants as section
 use Rattle.world_text.specs.Sections.{is_between}
 use Rattle.world_text.specs.Meaning.{decl_in, slot_in, next_in}
-use Rattle.world_text.proofs.MeaningLemmas.{gains, keeps, last_section_push, pools_in-other}
+use Rattle.world_text.proofs.MeaningLemmas.{gains, keeps, groups_keep, last_section_push, pools_in-other}
 use Rattle.world_text.proofs.SettledLemmas.{settled_slot}
 use Rattle.world_text.proofs.AddingLemmas.{and_true, below_test, placed_at, kept_tick}
 use Rattle.world_text.proofs.adding.add_slot.Goals as goal
@@ -20,6 +20,7 @@ returns-clause-ok c =
           record {
             section = sym (last_section_push before l p.high);
             decls = keeps decl_in before l _ refl s.decls;
+            groups = s.groups ∙ groups_keep before l refl refl;
             tick = s.tick ∙ kept_tick before l refl;
             slots = c.in_ok-push.ensures.items ∙ gains slot_in before l _ s.slots;
             free = keeps next_in before l _ refl s.free;

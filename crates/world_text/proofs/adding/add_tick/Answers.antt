@@ -3,7 +3,7 @@ use Rattle.world_text.specs.LineKinds as line
 use Rattle.world_text.specs.declared.section.Section.TheVariants as section
 use Rattle.world_text.specs.Sections.{is_between}
 use Rattle.world_text.specs.Meaning.{decl_in, slot_in, next_in}
-use Rattle.world_text.proofs.MeaningLemmas.{keeps, last_section_push, pools_in-other}
+use Rattle.world_text.proofs.MeaningLemmas.{keeps, groups_keep, last_section_push, pools_in-other}
 use Rattle.world_text.proofs.SettledLemmas.{settled_same}
 use Rattle.world_text.proofs.AddingLemmas.{placed_at, first_tick}
 use Rattle.world_text.proofs.adding.add_tick.Goals as goal
@@ -11,15 +11,16 @@ use Rattle.world_text.proofs.adding.add_tick.Goals as goal
 pub returns-clause-ok : goal.returns-clause-ok
 returns-clause-ok c =
     let l = line.Tick c.args.tick in
-    let placed : is_between section.Version section.Components c.args.draft.now.section ≡ true = search rules in
+    let placed : is_between section.Version section.Groups c.args.draft.now.section ≡ true = search rules in
     record {
       format = refl;
-      fit = λ before s. (placed_at section.Version section.Components c.args.draft.now before s placed).fit;
+      fit = λ before s. (placed_at section.Version section.Groups c.args.draft.now before s placed).fit;
       stands = λ before s.
-          let p = placed_at section.Version section.Components c.args.draft.now before s placed in
+          let p = placed_at section.Version section.Groups c.args.draft.now before s placed in
           record {
             section = sym (last_section_push before l (omega (arith, p.high)));
             decls = keeps decl_in before l _ refl s.decls;
+            groups = s.groups ∙ groups_keep before l refl refl;
             tick = first_tick before c.args.tick (omega (arith, p.high));
             slots = keeps slot_in before l _ refl s.slots;
             free = keeps next_in before l _ refl s.free;

@@ -49,6 +49,23 @@ pub returns-in-View-clause-bad : goal.returns-in-View-clause-bad
 returns-in-View-clause-bad c = λ bad line rest h.
     c.take_view.ensures.bad bad line rest (subst (λ (v : Verb). IsLineBehind version_1.profile c.args.decls.now v c.args.text.now line rest) c.in-View.is h)
 
+pub returns-in-Group-clause-bad : goal.returns-in-Group-clause-bad
+returns-in-Group-clause-bad c = λ bad line rest h.
+    c.take_group_line.ensures.bad bad line rest (subst (λ (v : Verb). IsLineBehind version_1.profile c.args.decls.now v c.args.text.now line rest) c.in-Group.is h)
+
+pub returns-in-Members-clause-ok : goal.returns-in-Members-clause-ok
+returns-in-Members-clause-ok c =
+    found_ok (λ x. (decls : List Decl) → IsLineBehind version_1.profile decls verb.Members c.args.text.now x.0 x.1.now) (λ x. IsLineBehind version_1.profile c.args.decls.now c.args.verb c.args.text.now x.0 x.1.now) c.take_members.result c.ok_or-in-Members.result c.ok_or-in-Members.ensures.value c.take_members.ensures.some
+    (λ x h. subst (λ (v : Verb). IsLineBehind version_1.profile c.args.decls.now v c.args.text.now x.0 x.1.now) (sym c.in-Members.is) (h c.args.decls.now))
+
+pub returns-in-Members-clause-bad : goal.returns-in-Members-clause-bad
+returns-in-Members-clause-bad c = λ bad line rest h.
+    none_bad _ c.take_members.result c.ok_or-in-Members.result c.ok_or-in-Members.ensures.value c.take_members.ensures.none bad c.args.decls.now line rest (subst (λ (v : Verb). IsLineBehind version_1.profile c.args.decls.now v c.args.text.now line rest) c.in-Members.is h)
+
+pub returns-in-Sort-clause-bad : goal.returns-in-Sort-clause-bad
+returns-in-Sort-clause-bad c = λ bad line rest h.
+    none_bad _ c.take_sort.result c.ok_or-in-Sort.result c.ok_or-in-Sort.ensures.value c.take_sort.ensures.none bad line rest (subst (λ (v : Verb). IsLineBehind version_1.profile c.args.decls.now v c.args.text.now line rest) c.in-Sort.is h)
+
 pub returns-in-Watch-clause-bad : goal.returns-in-Watch-clause-bad
 returns-in-Watch-clause-bad c = λ bad line rest h.
     none_bad _ c.take_watch.result c.ok_or-in-Watch.result c.ok_or-in-Watch.ensures.value c.take_watch.ensures.none bad line rest (subst (λ (v : Verb). IsLineBehind version_1.profile c.args.decls.now v c.args.text.now line rest) c.in-Watch.is h)

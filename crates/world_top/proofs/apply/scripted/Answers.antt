@@ -11,7 +11,7 @@ finish-requires g c =
     let before = c.new-out.result.items in
     let out = c.play.new.out.items in
     let played = subst (λ (decls : List Decl). WasPlayed decls script held world before out) c.as_slice.ensures c.in_ok-play.ensures.ok in
-    left_is_lawful c.args.document script held world before out c.requires c.in_ok-registry.ensures played
+    left_is_lawful c.args.document script held world before out c.requires c.in_ok-registry.ensures.world played
 
 pub returns-clause-ok : goal.returns-clause-ok
 returns-clause-ok g c =
@@ -21,4 +21,4 @@ returns-clause-ok g c =
     let before = c.new-out.result.items in
     let out = c.play.new.out.items in
     let played = subst (λ (decls : List Decl). WasPlayed decls script held world before out) c.as_slice.ensures c.in_ok-play.ensures.ok in
-    printed_whole c.args.document script held world before out c.in_ok-whole.whole.items c.requires c.in_ok-registry.ensures c.new-out.ensures.items played c.in_ok-whole.ensures
+    printed_whole c.args.document script held world before out c.in_ok-whole.whole.items c.in_ok-registry.ensures.world c.new-out.ensures.items played c.in_ok-whole.ensures

@@ -1,10 +1,11 @@
-use Rattle.std.proofs.Common.{◌≡◌, None, ap}
+use Rattle.std.proofs.Common.{◌≡◌, None, refl, ap}
 use Rattle.world_model.specs.declared.command.Command.TheVariants.{Create}
 use Rattle.world_model.specs.declared.refusal.Refusal.TheVariants as refusal
 use Rattle.world_model.specs.Refusing.{refuse}
 use Rattle.registry.specs.Held.{refusal_to}
 use Rattle.registry.specs.Layout.{held_of}
 use Rattle.registry.proofs.DoneLemmas.{did, stayed, with_slots, slots_changed, slots_stayed}
+use Rattle.registry.proofs.PackingLemmas.{repacks_none}
 use Rattle.registry.proofs.parts.creation.create.Goals as goal
 
 pub returns-in-Ok-clause-consistent : goal.returns-in-Ok-clause-consistent
@@ -24,3 +25,6 @@ returns-in-Err-Full-clause-err g c = (stayed c.args.parts.now _ c.requires (slot
 
 pub returns-in-Err-OutOfMemory-clause-err : goal.returns-in-Err-OutOfMemory-clause-err
 returns-in-Err-OutOfMemory-clause-err g c = (stayed c.args.parts.now _ c.requires (slots_stayed c.args.parts.now c.create.new.self c.requires c.in-Err-OutOfMemory.ensures.err)).1
+
+pub returns-in-Ok-clause-packed : goal.returns-in-Ok-clause-packed
+returns-in-Ok-clause-packed g c = repacks_none (held_of c.args.parts.now) (held_of (with_slots c.args.parts.now c.create.new.self)) Create refl refl

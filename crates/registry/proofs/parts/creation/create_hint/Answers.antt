@@ -1,4 +1,4 @@
-use Rattle.std.proofs.Common.{◌≡◌, ◌&&◌, true, None, ap, ◌∙◌, rules}
+use Rattle.std.proofs.Common.{◌≡◌, ◌&&◌, true, None, refl, ap, ◌∙◌, rules}
 use Rattle.world_model.specs.declared.command.Command.TheVariants.{Hint}
 use Rattle.world_model.specs.declared.refusal.Refusal.TheVariants as refusal
 use Rattle.world_model.specs.Refusing.{refuse}
@@ -7,6 +7,7 @@ use Rattle.registry.specs.Held.{refusal_to}
 use Rattle.registry.specs.Layout.{held_of, world_of}
 use Rattle.registry.proofs.DoneLemmas.{did, stayed, with_slots, slots_changed, slots_stayed}
 use Rattle.registry.proofs.HintLemmas.{hint_refusal, refused_needs}
+use Rattle.registry.proofs.PackingLemmas.{repacks_none}
 use Rattle.registry.proofs.parts.creation.create_hint.Goals as goal
 
 pub returns-in-Ok-clause-consistent : goal.returns-in-Ok-clause-consistent
@@ -38,3 +39,6 @@ returns-in-Err-Full-clause-reuse g c = refused_needs c.args.parts.now.slots c.ar
 
 pub returns-in-Err-OutOfMemory-clause-reuse : goal.returns-in-Err-OutOfMemory-clause-reuse
 returns-in-Err-OutOfMemory-clause-reuse g c = refused_needs c.args.parts.now.slots c.args.hint c.in-Err-OutOfMemory.ensures.reuse c.in-Err-OutOfMemory.ensures.taken
+
+pub returns-in-Ok-clause-packed : goal.returns-in-Ok-clause-packed
+returns-in-Ok-clause-packed g c = repacks_none (held_of c.args.parts.now) (held_of (with_slots c.args.parts.now c.create_hint.new.self)) (Hint c.args.hint) refl refl

@@ -1,15 +1,17 @@
-use Rattle.std.proofs.Common.{◌≡◌, not, None, true, sym, ap, ◌∙◌, arith}
+use Rattle.std.proofs.Common.{◌≡◌, not, None, true, sym, ap, ◌∙◌}
 use Rattle.world_model.specs.declared.command.Command.TheVariants.{Destroy}
 use Rattle.world_model.specs.declared.refusal.Refusal.TheVariants as refusal
 use Rattle.world_model.specs.Refusing.{refuse}
-use Rattle.world_model.specs.Contents.{holders}
 use Rattle.world_model.specs.Slots.{is_live}
 use Rattle.registry.specs.Held.{refusal_to}
-use Rattle.registry.specs.Layout.{held_of, world_of}
+use Rattle.registry.specs.Layout.{held_of}
+use Rattle.std.proofs.lemmas.List.{length-map}
+use Rattle.entity_id.specs.FiniteMap as entries
+use Rattle.storage.specs.Stored.{Stored}
+use Rattle.world_model.specs.declared.component.Row.{Row}
 use Rattle.registry.proofs.DestroyLemmas.{destroyed}
 use Rattle.registry.proofs.DoneLemmas.{same, refused, did}
 use Rattle.registry.proofs.ResultLemmas.{on_ok}
-use Rattle.registry.proofs.StepLemmas.{held_count, one_each}
 use Rattle.registry.proofs.parts.leaving.destroy.Goals as goal
 
 pub returns-then-not-valid-clause-does : goal.returns-then-not-valid-clause-does
@@ -20,9 +22,13 @@ pub returns-then-not-valid-clause-unchanged : goal.returns-then-not-valid-clause
 returns-then-not-valid-clause-unchanged g c = same (held_of c.args.parts.now)
 
 pub returns-clause-steps : goal.returns-clause-steps
-returns-clause-steps g c =
-    let w = world_of c.args.parts.now in
-    omega (arith, c.leave_all.ensures.steps, held_count w c.args.entity, one_each (holders w c.args.entity))
+returns-clause-steps g c = c.leave_all.ensures.steps
+
+pub returns-clause-packed : goal.returns-clause-packed
+returns-clause-packed g c = record {
+  each = length-map c.leave_all.new.pools.items (λ (s : Stored Row). entries.keys s.pairs) ∙ c.leave_all.ensures.pool_each ∙ sym (length-map c.args.parts.now.pools.items (λ (s : Stored Row). entries.keys s.pairs));
+  lists = c.leave_all.ensures.packed;
+}
 
 pub returns-clause-consistent : goal.returns-clause-consistent
 returns-clause-consistent g c =
@@ -31,7 +37,7 @@ returns-clause-consistent g c =
     let fine : refusal_to (held_of old) (Destroy c.args.entity) ≡ None = ap (λ b. refuse (not b) refusal.Dead) live in
     let lists = on_ok c.destroy.result (c.destroy.ensures.live ∙ live) c.destroy.ensures.lists in
     let all = c.leave_all.ensures in
-    (did old _ (Destroy c.args.entity) c.requires tt fine (destroyed old c.destroy.new.self c.leave_all.new.pools c.leave_all.new.signals c.args.entity c.requires lists all.maps all.hearings all.signal_each all.room)).0
+    (did old _ (Destroy c.args.entity) c.requires tt fine (destroyed old c.destroy.new.self c.leave_all.new.pools c.leave_all.new.groups c.leave_all.new.signals c.args.entity c.requires lists all.maps all.hearings all.signal_each all.room all.groups)).0
 
 pub returns-clause-does : goal.returns-clause-does
 returns-clause-does g c =
@@ -40,4 +46,4 @@ returns-clause-does g c =
     let fine : refusal_to (held_of old) (Destroy c.args.entity) ≡ None = ap (λ b. refuse (not b) refusal.Dead) live in
     let lists = on_ok c.destroy.result (c.destroy.ensures.live ∙ live) c.destroy.ensures.lists in
     let all = c.leave_all.ensures in
-    (did old _ (Destroy c.args.entity) c.requires tt fine (destroyed old c.destroy.new.self c.leave_all.new.pools c.leave_all.new.signals c.args.entity c.requires lists all.maps all.hearings all.signal_each all.room)).1
+    (did old _ (Destroy c.args.entity) c.requires tt fine (destroyed old c.destroy.new.self c.leave_all.new.pools c.leave_all.new.groups c.leave_all.new.signals c.args.entity c.requires lists all.maps all.hearings all.signal_each all.room all.groups)).1

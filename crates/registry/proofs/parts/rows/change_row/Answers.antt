@@ -12,7 +12,7 @@ returns-clause-ok g c =
     let low = c.requires.declared in
     both_ok c.change.result c.change.ensures.map c.change.ensures.heard (λ map heard. row_set old at c.index_mut.result.now c.change.new.pool (read_at old.pools.items (length old.decls) at _ h.pool_each low c.index_mut.ensures.value)
     c.index_mut-2.result.now c.change.new.update (read_at old.update.items (length old.decls) at _ h.update_each low c.index_mut-2.ensures.value)
-    h c.change.ensures.len c.args.entity c.args.row map heard)
+    h c.change.ensures.len c.change.ensures.keys c.args.entity c.args.row map heard)
 
 pub returns-clause-err : goal.returns-clause-err
 returns-clause-err g c =
@@ -22,7 +22,7 @@ returns-clause-err g c =
     let low = c.requires.declared in
     both_err c.change.result c.change.ensures.err c.change.ensures.heard_err (λ same quiet. not_set old at c.index_mut.result.now c.change.new.pool (read_at old.pools.items (length old.decls) at _ h.pool_each low c.index_mut.ensures.value)
     c.index_mut-2.result.now c.change.new.update (read_at old.update.items (length old.decls) at _ h.update_each low c.index_mut-2.ensures.value)
-    h c.change.ensures.len same quiet)
+    h c.change.ensures.len c.change.ensures.keys same quiet)
 
 pub returns-clause-packed : goal.returns-clause-packed
 returns-clause-packed g c =

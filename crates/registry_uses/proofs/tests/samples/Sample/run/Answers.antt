@@ -12,8 +12,8 @@ same_decls : (old new : Held) (command : Command) (reply : Reply) → IsRun old 
 same_decls old new command reply (inl done) = ap (λ (w : World). w.decls) done.0.world ∙ (step_same old.limit old.world command).decls
 same_decls old new command reply (inr short) = ap (λ (w : World). w.decls) short.3.unchanged.world
 
-pub run-requires-clause-asked : goal.run-requires-clause-asked
-run-requires-clause-asked g c = c.requires.asked c.args.self.now.registry.world c.args.self.now.decls
+pub run-requires : goal.run-requires
+run-requires g c = record { asked = c.requires.asked c.args.self.now.registry.world c.args.self.now.decls }
 
 pub invariant_of-self : goal.invariant_of-self
 invariant_of-self g c = record { decls = same_decls c.args.self.now.registry c.run.new.self c.args.command c.run.result c.run.ensures.run ∙ c.args.self.now.decls }
