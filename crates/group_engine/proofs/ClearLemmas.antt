@@ -47,7 +47,7 @@ not_all_of f (o ∷ pools) pool has h = elim (or_cases (eqb o pool) (has_pool po
 ]
 
 -- a test that passes in an excluded pool fails
-excluded_fails : (d : GroupDecl) (f : ℕ → Bool) (pool : ℕ) → has_pool d.without pool ≡ true → f pool ≡ true → passes d f ≡ false
+pub excluded_fails : (d : GroupDecl) (f : ℕ → Bool) (pool : ℕ) → has_pool d.without pool ≡ true → f pool ≡ true → passes d f ≡ false
 excluded_fails d f pool has h = ap (λ b. list_all f (d.own ++ d.get) && not b) (any_of f d.without pool has h) ∙ and-false (list_all f (d.own ++ d.get))
 
 -- without a pool that is held nothing matches

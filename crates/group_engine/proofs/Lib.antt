@@ -16,3 +16,4 @@ pub mod BuildLemmas
 pub mod EngineLemmas
 pub mod ChangeLemmas
 pub mod ClearLemmas
+pub mod TestLemmas

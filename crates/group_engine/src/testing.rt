@@ -1,10 +1,10 @@
 //! Whether an identifier matches a group, were it in a pool or not.
 
-ghost use Rattle.std.specs.Prelude.{◌≡◌};
+ghost use Rattle.std.specs.Prelude.{◌≡◌, ◌++◌};
 ghost use Rattle.std.specs.List.{list_any, list_all};
 ghost use Rattle.group_engine.specs.Grouped.{packed_of};
 ghost use Rattle.group_engine.specs.Moving.{in_if, matches_if, comes_in, goes_out};
-ghost use Rattle.world_model.specs.Groups.{has_pool, group_pools};
+ghost use Rattle.world_model.specs.Groups.{has_pool};
 
 use entity_id::Entity;
 use storage::Storage;
@@ -71,17 +71,17 @@ pub fn has_pool(pools: &[u32], pool: u32) -> bool
     pools.iter().any(|other| *other == pool)
 }
 
-// Whether a group names a pool.
-fn names(decl: &GroupDecl, pool: u32) -> bool
-    ensures { result ≡ has_pool (group_pools decl.now) pool }
+// Whether a group owns or observes a pool.
+fn wants(decl: &GroupDecl, pool: u32) -> bool
+    ensures { result ≡ has_pool (decl.now.own ++ decl.now.get) pool }
 {
-    has_pool(decl.own.as_slice(), pool)
-        || has_pool(decl.get.as_slice(), pool)
-        || has_pool(decl.without.as_slice(), pool)
+    has_pool(decl.own.as_slice(), pool) || has_pool(decl.get.as_slice(), pool)
 }
 
-// Whether an identifier is in a group after and not before. A group that doesn't name the pool needs no
-// look-up.
+// Whether an identifier is in a group after and not before. Only one of the two is ever looked up: without
+// a pool that the group wants the identifier isn't in it, and with one that it excludes neither. A group
+// that doesn't name the pool needs no look-up.
+#[tactic(auto, using(crate::proofs::TestLemmas::comes_wanted, crate::proofs::TestLemmas::comes_unwanted))]
 pub fn comes_in<T: Copy>(
     decl: &GroupDecl,
     pools: &[Storage<T>],
@@ -91,12 +91,17 @@ pub fn comes_in<T: Copy>(
 ) -> bool
     ensures { result ≡ comes_in (packed_of pools.now) entity pool held decl.now }
 {
-    names(decl, pool)
-        && !matches_if(decl, pools, entity, pool, !held)
-        && matches_if(decl, pools, entity, pool, held)
+    if wants(decl, pool) {
+        held && matches_if(decl, pools, entity, pool, true)
+    } else {
+        !held
+            && has_pool(decl.without.as_slice(), pool)
+            && matches_if(decl, pools, entity, pool, false)
+    }
 }
 
 // Whether it is in a group before and not after.
+#[tactic(auto, using(crate::proofs::TestLemmas::goes_as_comes))]
 pub fn goes_out<T: Copy>(
     decl: &GroupDecl,
     pools: &[Storage<T>],
@@ -106,7 +111,5 @@ pub fn goes_out<T: Copy>(
 ) -> bool
     ensures { result ≡ goes_out (packed_of pools.now) entity pool held decl.now }
 {
-    names(decl, pool)
-        && matches_if(decl, pools, entity, pool, !held)
-        && !matches_if(decl, pools, entity, pool, held)
+    comes_in(decl, pools, entity, pool, !held)
 }
