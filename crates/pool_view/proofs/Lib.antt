@@ -1,0 +1,4 @@
+pub mod LeadingLemmas
+pub mod WalkLemmas
+pub mod MatchLemmas
+pub mod WorkedViews

@@ -1,0 +1,3 @@
+pub mod ViewedSets
+pub mod ViewedPools
+pub mod HeldSets
