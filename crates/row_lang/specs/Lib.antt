@@ -1,0 +1,17 @@
+pub mod Naming
+pub mod NameLists
+pub mod FieldNames
+pub mod Reading
+pub mod Spelling
+pub mod Places
+pub mod Nesting
+pub mod BodyLines
+pub mod Systems
+pub mod Arithmetic
+pub mod Values
+pub mod Bodies
+pub mod Frames
+pub mod Effects
+pub mod Stacks
+pub mod TokenReading
+pub mod Drafts
