@@ -49,7 +49,7 @@ placed_at first last draft before stands placed =
 pub misplaced_at : (first last : Section) (draft : Draft) (before : List Line) → Stands draft before → is_between first last draft.section ≡ false → is_between first last (last_section before) ≡ false
 misplaced_at first last draft before stands misplaced = ap (is_between first last) (sym stands.section) ∙ misplaced
 
-pub first_tick : (before : List Line) (tick : ℕ) → order (last_section before) < 4 → tick ≡ get_or (flat_map tick_in (before ++ line.Tick tick ∷ [])) 0 0
+pub first_tick : (before : List Line) (tick : ℕ) → order (last_section before) < 5 → tick ≡ get_or (flat_map tick_in (before ++ line.Tick tick ∷ [])) 0 0
 first_tick before tick early = sym (ap (λ xs. get_or xs 0 0) (flat_map_push tick_in before (line.Tick tick) ∙ ap (λ xs. xs ++ tick ∷ []) (no_tick_yet before early)))
 
 pub kept_tick : (before : List Line) (l : Line) → tick_in l ≡ [] → get_or (flat_map tick_in before) 0 0 ≡ get_or (flat_map tick_in (before ++ l ∷ [])) 0 0

@@ -9,7 +9,7 @@ use Rattle.entity_id.proofs.ListLemmas.{all-append}
 use Rattle.world_model.specs.declared.component.Decl.{Decl}
 use Rattle.world_text.specs.declared.script.ScriptLine.{ScriptLine}
 use Rattle.world_text.specs.declared.script.ScriptLine.TheVariants.{Run, Watch, Unwatch}
-use Rattle.world_text.specs.NameLists.{name_at}
+use Rattle.row_lang.specs.NameLists.{name_at}
 use Rattle.world_text.specs.Scripts.{IsScriptLine, IsLineWrittenAs, IsLineFirst, IsScript, IsBegun, IsBadScriptLine, begun_text, first_line, last_line, script_line_text, event_word}
 
 -- before the first line

@@ -13,6 +13,7 @@ use Rattle.world_text.specs.Formats.{version_1}
 use Rattle.world_text.specs.LineKinds.{Line}
 use Rattle.world_text.specs.Lines.{line_text, text_of}
 use Rattle.world_text.specs.Meaning.{world_of}
+use Rattle.world_text.specs.SystemLines.{systems_in}
 use Rattle.world_text.specs.Scripts.{IsBegun, IsScript, IsBadScriptLine, IsScripted, IsBadScriptedLine, last_line}
 use Rattle.world_text.proofs.BegunLemmas.{begun_none, begun-push, begun_whole, begun_bad, begun_more, line_shortens}
 use Rattle.world_text.proofs.ReadingLemmas.{each_push, fit_after_push, text_push, whole_front, bad_behind}
@@ -23,13 +24,14 @@ module _ (format : Format) (bytes : List ℕ) (no_front : (document : Document) 
   -- admissible lines have not reached the end
   unfinished : (lines : List Line) (rest : List ℕ) → AreAdmissible format lines → bytes ≡ text_of format lines ++ rest → last_section lines ≢ section.End
   unfinished lines rest admissible spelled ended =
-      no_front (record { world = world_of format lines }) (length lines) rest (record {
+      no_front (record { world = world_of format lines; systems = (systems_in lines).closed }) (length lines) rest (record {
         lines = lines;
         admissible = admissible;
         ended = ended;
         counted = refl;
         spelled = spelled;
         world_is = refl;
+        systems_are = refl;
       })
 
   -- so a further one would have to follow, without end

@@ -2,8 +2,8 @@
 use Rattle.std.proofs.Common.{◌≡◌, Option, Some, None, Result, Ok, Err, subst, sym}
 use Rattle.std.specs.Prelude.{IfOk, IfSome, IfNone, IsErrOf}
 use Rattle.std.specs.Option.{ok_or}
-use Rattle.world_text.specs.declared.fault.LineFault.{LineFault}
-use Rattle.world_text.specs.declared.fault.LineFault.TheVariants.{Bad}
+use Rattle.row_lang.specs.declared.fault.LineFault.{LineFault}
+use Rattle.row_lang.specs.declared.fault.LineFault.TheVariants.{Bad}
 
 -- what holds of every answer holds of this one
 pub if_ok : {T E : Type 0} {P Q : T → Type 0} (r : Result T E) → IfOk r P → ((x : T) → P x → Q x) → IfOk r Q

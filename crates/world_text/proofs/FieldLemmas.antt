@@ -14,10 +14,11 @@ use Rattle.world_model.specs.declared.tokens.FieldAt.{FieldAt}
 use Rattle.world_model.specs.Components.{kinds_of}
 use Rattle.world_model.specs.Tokens.{field_count, IsFieldToken}
 use Rattle.world_model.proofs.TokenLemmas.{decimal_lacks_dot}
-use Rattle.world_text.specs.NameLists.{name_at, IsCalled}
-use Rattle.world_text.specs.Scripts.{field_text, kind_at}
-use Rattle.world_text.specs.ScriptReading.{IsNameSplit, ends_name, HasFewFields, IsFieldNext}
-use Rattle.world_text.proofs.NameLemmas.{IsFree, called_free, token_is_name, token_called, one_called, same_name_split}
+use Rattle.row_lang.specs.NameLists.{name_at, IsCalled}
+use Rattle.row_lang.specs.FieldNames.{field_text, kind_at}
+use Rattle.row_lang.specs.Reading.{IsNameSplit, ends_name}
+use Rattle.world_text.specs.ScriptReading.{HasFewFields, IsFieldNext}
+use Rattle.row_lang.proofs.NameLemmas.{IsFree, called_free, token_is_name, token_called, one_called, same_name_split}
 
 -- ---- the text of a field
 

@@ -15,15 +15,16 @@ use Rattle.std.proofs.Math.ListN.{get_or-append}
 use Rattle.std.proofs.Math.Seq.{get_or-append_seam}
 use Rattle.entity_id.proofs.ListLemmas.{all-append}
 use Rattle.world_model.specs.Groups.{are_declared, are_distinct, has_pool, group_pools, is_well_formed, may_coexist, AreLawfulGroups}
-use Rattle.world_text.specs.Documents.{HasAscendingLists, AreNamedDecls, are_named_apart, named_of}
+use Rattle.row_lang.specs.Naming.{AreNamedDecls, are_named_apart}
+use Rattle.world_text.specs.Documents.{HasAscendingLists, named_of}
 use Rattle.world_text.specs.Fitting.{are_listed, may_join}
 use Rattle.world_text.specs.LineKinds.{NamedGroup}
 use Rattle.world_text.specs.Lines.{IsNamedGroup}
 use Rattle.world_text.specs.Meaning.{group_of, pools_named}
-use Rattle.world_text.specs.NameLists.{name_at, IsCalled, AreNamedOnce}
+use Rattle.row_lang.specs.NameLists.{name_at, IsCalled, AreNamedOnce}
 use Rattle.world_text.proofs.NamedPoolLemmas.{named_are_declared, named_rise, kept_by_names, told_back, names_formed}
-use Rattle.world_text.proofs.NameLemmas.{called_in}
-use Rattle.world_text.proofs.NameListLemmas.{times, one_if, times-cons, unnamed_counted}
+use Rattle.row_lang.proofs.NameLemmas.{called_in}
+use Rattle.row_lang.proofs.NameListLemmas.{times, one_if, times-cons, unnamed_counted}
 
 -- three lists of declared components
 pub declared_together : (count : ℕ) (own get without : List ℕ) → are_declared count own ≡ true → are_declared count get ≡ true → are_declared count without ≡ true → are_declared count (own ++ get ++ without) ≡ true

@@ -7,11 +7,12 @@ use Rattle.std.proofs.lemmas.List.Concat.{length-flat_map}
 use Rattle.std.proofs.lemmas.List.Sorted.{All-permutation, IsPermutation-sym, length_permutation, sum_by-IsPermutation}
 use Rattle.world_model.specs.declared.component.Decl.{Decl}
 use Rattle.world_model.specs.declared.group.GroupDecl.{GroupDecl}
-use Rattle.world_text.specs.NameLists.{name_at, names_text, part_text, IsCalled, AreNamedOnce}
+use Rattle.row_lang.specs.NameLists.{name_at, names_text, part_text, IsCalled, AreNamedOnce}
 use Rattle.world_text.specs.GroupLines.{group_text, IsGroupList, IsGroupLine, IsGroupWrittenAs, IsGroupFirst}
-use Rattle.world_text.specs.ScriptReading.{EndsName, AreSomeNext, IsPartNext, IsKeptAs, AreGroupLists, IsGroupNext}
-use Rattle.world_text.proofs.KeptLemmas.{one_kept}
-use Rattle.world_text.proofs.NameListLemmas.{pools_of_text, pools_spelled, pools_called, one_some, one_part, part_spelled, part_called, part_once, part_of_text, part_ends, part_is_no_name, end_is_no_name, end_is_no_not}
+use Rattle.row_lang.specs.Reading.{EndsName, AreSomeNext, IsPartNext, IsKeptAs}
+use Rattle.world_text.specs.ScriptReading.{AreGroupLists, IsGroupNext}
+use Rattle.row_lang.proofs.KeptLemmas.{one_kept}
+use Rattle.row_lang.proofs.NameListLemmas.{pools_of_text, pools_spelled, pools_called, one_some, one_part, part_spelled, part_called, part_once, part_of_text, part_ends, part_is_no_name, end_is_no_name, end_is_no_not}
 
 -- ---- one group at the front of a text
 

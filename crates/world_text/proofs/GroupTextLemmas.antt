@@ -7,7 +7,8 @@ use Rattle.entity_id.specs.Cuts.{Lacks}
 use Rattle.entity_id.proofs.CutLemmas.{lacks_append, lacks_by_test}
 use Rattle.world_model.specs.Names.{is_name}
 use Rattle.world_text.specs.LineKinds.{NamedGroup}
-use Rattle.world_text.specs.Lines.{IsNamedGroup, spaced_names, names_behind, lists_text}
+use Rattle.row_lang.specs.NameLists.{spaced_names, names_behind}
+use Rattle.world_text.specs.Lines.{IsNamedGroup, lists_text}
 use Rattle.world_text.specs.Reading.{BeginsWithSpace}
 use Rattle.world_text.proofs.WordLemmas.{lacks_behind, same_split, name_lacks}
 

@@ -18,7 +18,8 @@ use Rattle.world_text.specs.LineKinds.{Line, NamedGroup}
 use Rattle.world_text.specs.LineKinds as line
 use Rattle.world_text.specs.Formats.{IsFormat}
 use Rattle.world_text.specs.Sections.{order, is_between}
-use Rattle.world_text.specs.Lines.{IsLine, IsNamedDecl, IsRowLine}
+use Rattle.row_lang.specs.Naming.{IsNamedDecl}
+use Rattle.world_text.specs.Lines.{IsLine, IsRowLine}
 use Rattle.world_text.specs.Meaning.{decl_in, group_in, group_of, groups_in, tick_in, slot_in, next_in, pools_in}
 use Rattle.world_text.specs.Fitting.{section_of, last_section, all_settled, goes_on_last, are_listed, may_join, fits, is_unlisted}
 use Rattle.world_text.proofs.MeaningLemmas.{gains, keeps, groups_keep, groups_gain, groups_before, last_section_push, no_group_yet, no_next_yet, no_pool_yet, IsBesidePools, pools_in-row, pools_in-pool, pools_in-other}
@@ -167,6 +168,8 @@ pub line_after : (format : Format) (before : List Line) (l : Line) → IsFormat 
 line_after format before line.Version is_format is_line fit sound = subst (AreSound format) (same_parts format.profile before line.Version refl refl refl refl refl tt) sound
 line_after format before (line.Component decl) is_format is_line fit sound = component_after format before decl is_line fit sound
 line_after format before (line.Group named) is_format is_line fit sound = group_after format before named fit sound
+line_after format before (line.System name) is_format is_line fit sound = subst (AreSound format) (same_parts format.profile before (line.System name) refl refl refl refl refl tt) sound
+line_after format before (line.Body names body) is_format is_line fit sound = subst (AreSound format) (same_parts format.profile before (line.Body names body) refl refl refl refl refl tt) sound
 line_after format before (line.Tick tick) is_format is_line fit sound = tick_after format before tick is_line sound
 line_after format before (line.Slot slot) is_format is_line fit sound = slot_after format before slot is_line fit sound
 line_after format before (line.Next index) is_format is_line fit sound = next_after format before index fit sound
@@ -181,10 +184,10 @@ pub record IsWhole (format : Format) (lines : List Line) : Type 0 where
   pub settled_all : all_settled lines ≡ true
   pub pools_all : length (pools_in format.profile lines) ≡ length (flat_map decl_in lines)
 
-not_ended : (before : List Line) (l : Line) (first last : Section) → is_between first last (last_section before) ≡ true → order last ≤ order (section_of l) → order (section_of l) < 8 → last_section (before ++ l ∷ []) ≡ section.End → ⊥
+not_ended : (before : List Line) (l : Line) (first last : Section) → is_between first last (last_section before) ≡ true → order last ≤ order (section_of l) → order (section_of l) < 9 → last_section (before ++ l ∷ []) ≡ section.End → ⊥
 not_ended before l first last fit low early ended =
     let between = between_parts first last (last_section before) fit in
-    let at : order (section_of l) ≡ 8 = ap order (sym (last_section_push before l (omega (arith, between.1))) ∙ ended) in
+    let at : order (section_of l) ≡ 9 = ap order (sym (last_section_push before l (omega (arith, between.1))) ∙ ended) in
     omega arith
 
 end_whole : (format : Format) (before : List Line) → fits format before line.End ≡ true → IsWhole format (before ++ line.End ∷ [])
@@ -202,7 +205,9 @@ pub whole_after : (format : Format) (before : List Line) (l : Line) → fits for
 whole_after format before line.Version fit ended = absurd (not_ended before line.Version section.Start section.Start fit (omega arith) (omega arith) ended)
 whole_after format before (line.Component decl) fit ended = absurd (not_ended before (line.Component decl) section.Version section.Components (and_parts _ _ fit).0 (omega arith) (omega arith) ended)
 whole_after format before (line.Group named) fit ended = absurd (not_ended before (line.Group named) section.Version section.Groups (and_parts _ _ fit).0 (omega arith) (omega arith) ended)
-whole_after format before (line.Tick tick) fit ended = absurd (not_ended before (line.Tick tick) section.Version section.Groups fit (omega arith) (omega arith) ended)
+whole_after format before (line.System name) fit ended = absurd (not_ended before (line.System name) section.Version section.Systems (and_parts _ _ fit).0 (omega arith) (omega arith) ended)
+whole_after format before (line.Body names body) fit ended = absurd (not_ended before (line.Body names body) section.Systems section.Systems (and_parts _ _ fit).0 (omega arith) (omega arith) ended)
+whole_after format before (line.Tick tick) fit ended = absurd (not_ended before (line.Tick tick) section.Version section.Systems (and_parts _ _ fit).0 (omega arith) (omega arith) ended)
 whole_after format before (line.Slot slot) fit ended = absurd (not_ended before (line.Slot slot) section.Tick section.Slots (and_parts _ _ fit).0 (omega arith) (omega arith) ended)
 whole_after format before (line.Next index) fit ended = absurd (not_ended before (line.Next index) section.Tick section.FreeList (and_parts _ _ fit).0 (omega arith) (omega arith) ended)
 whole_after format before (line.Pool name) fit ended = absurd (not_ended before (line.Pool name) section.Tick section.Pools (and_parts _ _ fit).0 (omega arith) (omega arith) ended)

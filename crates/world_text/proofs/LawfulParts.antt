@@ -20,13 +20,14 @@ use Rattle.world_model.specs.Worlds.{AreLawfulRows}
 use Rattle.world_text.specs.declared.format.Format.{Format}
 use Rattle.world_text.specs.FieldValues.{FieldValue}
 use Rattle.world_text.specs.LineKinds.{Line, NamedGroup}
-use Rattle.world_text.specs.Lines.{IsNamedDecl, IsRowLine}
+use Rattle.row_lang.specs.Naming.{IsNamedDecl}
+use Rattle.world_text.specs.Lines.{IsRowLine}
 use Rattle.world_text.specs.Meaning.{decl_in, groups_in, group_of, tick_in, slot_in, next_in, row_of, pools_in, settled_from}
 use Rattle.world_text.specs.Fitting.{is_above, are_of_kinds, goes_on_last, may_join}
-use Rattle.world_text.specs.Documents.{are_named_apart}
+use Rattle.row_lang.specs.Naming.{are_named_apart}
 use Rattle.world_text.proofs.GroupLemmas.{AreSoundGroups, no_groups_sound, groups_push}
 use Rattle.world_text.proofs.LawfulRows.{row_fits, row_is_row}
-use Rattle.world_text.proofs.NameLemmas.{apart_push}
+use Rattle.row_lang.proofs.NameLemmas.{apart_push}
 use Rattle.world_text.proofs.LawfulSlots.{IsListed, listed_push}
 use Rattle.world_text.proofs.LawfulPools.{AreBeside, beside_push, beside_set, there, no_rows_lawful, rows_push}
 

@@ -1,5 +1,6 @@
 pub mod AddingLemmas
 pub mod BegunLemmas
+pub mod BodyTextLemmas
 pub mod CompleteLemmas
 pub mod Faults
 pub mod FieldLemmas
@@ -7,19 +8,20 @@ pub mod FormatLemmas
 pub mod GroupLemmas
 pub mod GroupLineLemmas
 pub mod GroupTextLemmas
-pub mod KeptLemmas
+pub mod HeaderLemmas
+pub mod HeaderTextLemmas
 pub mod LawfulLemmas
 pub mod LawfulLines
 pub mod LawfulParts
 pub mod LawfulPools
 pub mod LawfulRows
 pub mod LawfulSlots
+pub mod LawfulSystems
 pub mod LineLemmas
 pub mod LinePartLemmas
 pub mod ListLineLemmas
 pub mod MeaningLemmas
-pub mod NameLemmas
-pub mod NameListLemmas
+pub mod NamedLemmas
 pub mod NamedPoolLemmas
 pub mod OneLineLemmas
 pub mod OneScriptLemmas
@@ -29,6 +31,7 @@ pub mod PrintedLemmas
 pub mod PrintedLines
 pub mod PrintedMeaning
 pub mod PrintedPools
+pub mod PrintedSystems
 pub mod PrintedValues
 pub mod PrintingLemmas
 pub mod ReadGroupLemmas
@@ -41,6 +44,9 @@ pub mod ScriptLineLemmas
 pub mod SettledLemmas
 pub mod SortLineLemmas
 pub mod SplitLineLemmas
+pub mod SystemAddingLemmas
+pub mod SystemLemmas
+pub mod SystemLineLemmas
 pub mod Tags
 pub mod TakingLemmas
 pub mod UniqueLemmas
@@ -50,4 +56,5 @@ pub mod WorkedGroupScripts
 pub mod WorkedGroupLines
 pub mod WorkedRows
 pub mod WorkedScripts
+pub mod WorkedSystems
 pub mod WorkedTexts

@@ -6,9 +6,10 @@ use Rattle.entity_id.specs.Identifiers.{HasLimits}
 use Rattle.entity_id.specs.Texts.{entity_text}
 use Rattle.entity_id.proofs.FrontLemmas.{same_entity, same_number}
 use Rattle.world_model.specs.declared.component.Decl.{Decl}
-use Rattle.world_text.specs.NameLists.{name_at}
-use Rattle.world_text.specs.ScriptReading.{IsEntityNext, IsPoolNext, IsEntryNext, IsNumberNext}
-use Rattle.world_text.proofs.NameLemmas.{one_pool}
+use Rattle.row_lang.specs.NameLists.{name_at}
+use Rattle.row_lang.specs.Reading.{IsPoolNext}
+use Rattle.world_text.specs.ScriptReading.{IsEntityNext, IsEntryNext, IsNumberNext}
+use Rattle.row_lang.proofs.NameLemmas.{one_pool}
 
 -- ---- identifiers
 

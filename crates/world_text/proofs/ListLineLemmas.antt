@@ -4,9 +4,10 @@ use Rattle.entity_id.specs.declared.entity.Profile.{Profile}
 use Rattle.entity_id.specs.declared.entity.Entity.{Entity}
 use Rattle.entity_id.specs.Identifiers.{HasLimits}
 use Rattle.world_model.specs.declared.component.Decl.{Decl}
-use Rattle.world_text.specs.ScriptReading.{IsEntityNext, AreSomeNext, AreNamesLast, IsPartNext, AreEntityNames, IsViewLast}
+use Rattle.row_lang.specs.Reading.{AreSomeNext, IsPartNext}
+use Rattle.world_text.specs.ScriptReading.{IsEntityNext, AreNamesLast, AreEntityNames, IsViewLast}
 use Rattle.world_text.proofs.LinePartLemmas.{one_entity}
-use Rattle.world_text.proofs.NameListLemmas.{one_some, one_part}
+use Rattle.row_lang.proofs.NameListLemmas.{one_some, one_part}
 
 -- ---- names up to the end of a line
 

@@ -13,7 +13,7 @@ use Rattle.world_text.specs.FieldValues.{FieldValue}
 use Rattle.world_text.specs.LineKinds.{Line, NamedGroup}
 use Rattle.world_text.specs.LineKinds as line
 use Rattle.world_text.specs.Sections.{order, later}
-use Rattle.world_text.specs.Meaning.{decl_in, group_in, group_of, groups_in, tick_in, next_in, row_of, rows_in, pools_in}
+use Rattle.world_text.specs.Meaning.{decl_in, group_in, group_of, groups_in, tick_in, slot_in, next_in, row_of, rows_in, pools_in}
 use Rattle.world_text.specs.Fitting.{section_of, last_section}
 
 -- ---- parts that are lists
@@ -87,12 +87,17 @@ none_before f place none (l ∷ before) early =
 
 -- ---- what stands before a part
 
-nothing_early_free : (l : Line) → order (section_of l) < 6 → next_in l ≡ []
+nothing_early_free : (l : Line) → order (section_of l) < 7 → next_in l ≡ []
 nothing_early_free (line.Next index) early = absurd (omega arith)
 nothing_early_free line.End early = refl
 nothing_early_free _ early = refl
 
-nothing_early_tick : (l : Line) → order (section_of l) < 4 → tick_in l ≡ []
+nothing_early_slot : (l : Line) → order (section_of l) < 6 → slot_in l ≡ []
+nothing_early_slot (line.Slot slot) early = absurd (omega arith)
+nothing_early_slot line.End early = refl
+nothing_early_slot _ early = refl
+
+nothing_early_tick : (l : Line) → order (section_of l) < 5 → tick_in l ≡ []
 nothing_early_tick (line.Tick tick) early = absurd (omega arith)
 nothing_early_tick line.End early = refl
 nothing_early_tick _ early = refl
@@ -107,20 +112,26 @@ pub no_group_yet : (before : List Line) → order (last_section before) < 3 → 
 no_group_yet before early = none_before group_in 3 nothing_early_group before early
 
 -- before the free list no next line stands
-pub no_next_yet : (before : List Line) → order (last_section before) < 6 → flat_map next_in before ≡ []
-no_next_yet before early = none_before next_in 6 nothing_early_free before early
+pub no_next_yet : (before : List Line) → order (last_section before) < 7 → flat_map next_in before ≡ []
+no_next_yet before early = none_before next_in 7 nothing_early_free before early
+
+-- before the slots no slot line stands
+pub no_slot_yet : (before : List Line) → order (last_section before) < 6 → flat_map slot_in before ≡ []
+no_slot_yet before early = none_before slot_in 6 nothing_early_slot before early
 
 -- before the tick line no tick line stands
-pub no_tick_yet : (before : List Line) → order (last_section before) < 4 → flat_map tick_in before ≡ []
-no_tick_yet before early = none_before tick_in 4 nothing_early_tick before early
+pub no_tick_yet : (before : List Line) → order (last_section before) < 5 → flat_map tick_in before ≡ []
+no_tick_yet before early = none_before tick_in 5 nothing_early_tick before early
 
 -- before the pools no pool line stands
-pub no_pool_yet : (profile : Profile) (before : List Line) → order (last_section before) < 7 → pools_in profile before ≡ []
+pub no_pool_yet : (profile : Profile) (before : List Line) → order (last_section before) < 8 → pools_in profile before ≡ []
 no_pool_yet profile [] early = refl
 no_pool_yet profile (line.Pool name ∷ before) early = absurd (omega (arith, order_later section.Pools (last_section before)))
 no_pool_yet profile (line.Version ∷ before) early = no_pool_yet profile before (omega (arith, order_later section.Version (last_section before)))
 no_pool_yet profile (line.Component decl ∷ before) early = no_pool_yet profile before (omega (arith, order_later section.Components (last_section before)))
 no_pool_yet profile (line.Group named ∷ before) early = no_pool_yet profile before (omega (arith, order_later section.Groups (last_section before)))
+no_pool_yet profile (line.System system ∷ before) early = no_pool_yet profile before (omega (arith, order_later section.Systems (last_section before)))
+no_pool_yet profile (line.Body names body ∷ before) early = no_pool_yet profile before (omega (arith, order_later section.Systems (last_section before)))
 no_pool_yet profile (line.Tick tick ∷ before) early = no_pool_yet profile before (omega (arith, order_later section.Tick (last_section before)))
 no_pool_yet profile (line.Slot slot ∷ before) early = no_pool_yet profile before (omega (arith, order_later section.Slots (last_section before)))
 no_pool_yet profile (line.Next index ∷ before) early = no_pool_yet profile before (omega (arith, order_later section.FreeList (last_section before)))
@@ -168,6 +179,8 @@ rows_in-row profile (line.Row other row ∷ lines) entity values = ap (λ rows. 
 rows_in-row profile (line.Version ∷ lines) entity values = rows_in-row profile lines entity values
 rows_in-row profile (line.Component decl ∷ lines) entity values = rows_in-row profile lines entity values
 rows_in-row profile (line.Group named ∷ lines) entity values = rows_in-row profile lines entity values
+rows_in-row profile (line.System system ∷ lines) entity values = rows_in-row profile lines entity values
+rows_in-row profile (line.Body names body ∷ lines) entity values = rows_in-row profile lines entity values
 rows_in-row profile (line.Tick tick ∷ lines) entity values = rows_in-row profile lines entity values
 rows_in-row profile (line.Slot slot ∷ lines) entity values = rows_in-row profile lines entity values
 rows_in-row profile (line.Next index ∷ lines) entity values = rows_in-row profile lines entity values
@@ -180,6 +193,8 @@ pools_in-row-last profile (line.Row other row ∷ lines) entity values = pools_i
 pools_in-row-last profile (line.Version ∷ lines) entity values = pools_in-row-last profile lines entity values
 pools_in-row-last profile (line.Component decl ∷ lines) entity values = pools_in-row-last profile lines entity values
 pools_in-row-last profile (line.Group named ∷ lines) entity values = pools_in-row-last profile lines entity values
+pools_in-row-last profile (line.System system ∷ lines) entity values = pools_in-row-last profile lines entity values
+pools_in-row-last profile (line.Body names body ∷ lines) entity values = pools_in-row-last profile lines entity values
 pools_in-row-last profile (line.Tick tick ∷ lines) entity values = pools_in-row-last profile lines entity values
 pools_in-row-last profile (line.Slot slot ∷ lines) entity values = pools_in-row-last profile lines entity values
 pools_in-row-last profile (line.Next index ∷ lines) entity values = pools_in-row-last profile lines entity values
@@ -196,6 +211,8 @@ rows_in-pool profile (line.Row other row ∷ lines) name = ap (λ rows. (other, 
 rows_in-pool profile (line.Version ∷ lines) name = rows_in-pool profile lines name
 rows_in-pool profile (line.Component decl ∷ lines) name = rows_in-pool profile lines name
 rows_in-pool profile (line.Group named ∷ lines) name = rows_in-pool profile lines name
+rows_in-pool profile (line.System system ∷ lines) name = rows_in-pool profile lines name
+rows_in-pool profile (line.Body names body ∷ lines) name = rows_in-pool profile lines name
 rows_in-pool profile (line.Tick tick ∷ lines) name = rows_in-pool profile lines name
 rows_in-pool profile (line.Slot slot ∷ lines) name = rows_in-pool profile lines name
 rows_in-pool profile (line.Next index ∷ lines) name = rows_in-pool profile lines name
@@ -209,6 +226,8 @@ pools_in-pool profile (line.Row other row ∷ lines) name = pools_in-pool profil
 pools_in-pool profile (line.Version ∷ lines) name = pools_in-pool profile lines name
 pools_in-pool profile (line.Component decl ∷ lines) name = pools_in-pool profile lines name
 pools_in-pool profile (line.Group named ∷ lines) name = pools_in-pool profile lines name
+pools_in-pool profile (line.System system ∷ lines) name = pools_in-pool profile lines name
+pools_in-pool profile (line.Body names body ∷ lines) name = pools_in-pool profile lines name
 pools_in-pool profile (line.Tick tick ∷ lines) name = pools_in-pool profile lines name
 pools_in-pool profile (line.Slot slot ∷ lines) name = pools_in-pool profile lines name
 pools_in-pool profile (line.Next index ∷ lines) name = pools_in-pool profile lines name
@@ -232,6 +251,8 @@ rows_in-other profile (line.Row other row ∷ lines) l beside = ap (λ rows. (ot
 rows_in-other profile (line.Version ∷ lines) l beside = rows_in-other profile lines l beside
 rows_in-other profile (line.Component decl ∷ lines) l beside = rows_in-other profile lines l beside
 rows_in-other profile (line.Group named ∷ lines) l beside = rows_in-other profile lines l beside
+rows_in-other profile (line.System system ∷ lines) l beside = rows_in-other profile lines l beside
+rows_in-other profile (line.Body names body ∷ lines) l beside = rows_in-other profile lines l beside
 rows_in-other profile (line.Tick tick ∷ lines) l beside = rows_in-other profile lines l beside
 rows_in-other profile (line.Slot slot ∷ lines) l beside = rows_in-other profile lines l beside
 rows_in-other profile (line.Next index ∷ lines) l beside = rows_in-other profile lines l beside
@@ -245,6 +266,8 @@ pools_in-other profile (line.Row other row ∷ lines) l beside = pools_in-other 
 pools_in-other profile (line.Version ∷ lines) l beside = pools_in-other profile lines l beside
 pools_in-other profile (line.Component decl ∷ lines) l beside = pools_in-other profile lines l beside
 pools_in-other profile (line.Group named ∷ lines) l beside = pools_in-other profile lines l beside
+pools_in-other profile (line.System system ∷ lines) l beside = pools_in-other profile lines l beside
+pools_in-other profile (line.Body names body ∷ lines) l beside = pools_in-other profile lines l beside
 pools_in-other profile (line.Tick tick ∷ lines) l beside = pools_in-other profile lines l beside
 pools_in-other profile (line.Slot slot ∷ lines) l beside = pools_in-other profile lines l beside
 pools_in-other profile (line.Next index ∷ lines) l beside = pools_in-other profile lines l beside

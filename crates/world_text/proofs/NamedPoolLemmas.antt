@@ -16,15 +16,15 @@ use Rattle.world_model.specs.Components.{has_name}
 use Rattle.world_model.specs.Groups.{are_declared}
 use Rattle.world_model.specs.Names.{is_name}
 use Rattle.world_model.specs.Tokens.{IsNameToken}
-use Rattle.world_text.specs.Documents.{are_named_apart}
+use Rattle.row_lang.specs.Naming.{are_named_apart}
 use Rattle.world_text.specs.Fitting.{are_different, are_of_components}
 use Rattle.world_text.specs.Meaning.{pools_named}
-use Rattle.world_text.specs.NameLists.{name_at, IsCalled, AreNamedOnce}
-use Rattle.world_text.specs.ScriptReading.{IsKeptAs}
+use Rattle.row_lang.specs.NameLists.{name_at, IsCalled, AreNamedOnce}
+use Rattle.row_lang.specs.Reading.{IsKeptAs}
 use Rattle.world_text.proofs.AddingLemmas.{unequal_test}
-use Rattle.world_text.proofs.KeptLemmas.{same_counts}
-use Rattle.world_text.proofs.NameLemmas.{one_place, token_is_name, token_called}
-use Rattle.world_text.proofs.NameListLemmas.{times, one_if, times-cons, times-append, named_counted, unnamed_counted}
+use Rattle.row_lang.proofs.KeptLemmas.{same_counts}
+use Rattle.row_lang.proofs.NameLemmas.{one_place, token_is_name, token_called}
+use Rattle.row_lang.proofs.NameListLemmas.{times, one_if, times-cons, times-append, named_counted, unnamed_counted}
 
 -- ---- the numbers of a range that pass a test
 

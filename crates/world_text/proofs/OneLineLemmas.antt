@@ -25,16 +25,18 @@ use Rattle.world_text.specs.declared.verbs.Verb.TheVariants as verb
 use Rattle.world_text.specs.Documents.{value_in, values_in}
 use Rattle.world_text.specs.Lines.{IsValue, value_text, values_text}
 use Rattle.world_text.specs.Meaning.{row_of, field_of_value}
-use Rattle.world_text.specs.NameLists.{name_at}
-use Rattle.world_text.specs.Scripts.{row_text, field_text, field_value_text, event_word, IsLineFirst}
-use Rattle.world_text.specs.ScriptReading.{AreSomeNext, IsNumberNext, IsFieldNext, IsPoolSort, IsGroupSort, HasFewFields, IsKeptAs, IsEntityNext, IsRowLast, IsFieldLast, AreEntityNames, IsViewLast, IsPartNext, IsWatchLast, IsLineBehind}
+use Rattle.row_lang.specs.NameLists.{name_at}
+use Rattle.row_lang.specs.FieldNames.{field_text}
+use Rattle.world_text.specs.Scripts.{row_text, field_value_text, event_word, IsLineFirst}
+use Rattle.row_lang.specs.Reading.{AreSomeNext, IsKeptAs, IsPartNext}
+use Rattle.world_text.specs.ScriptReading.{IsNumberNext, IsFieldNext, IsPoolSort, IsGroupSort, HasFewFields, IsEntityNext, IsRowLast, IsFieldLast, AreEntityNames, IsViewLast, IsWatchLast, IsLineBehind}
 use Rattle.world_text.specs.Verbs.{word_of, entity_command, entry_command, row_command, names_command}
 use Rattle.world_text.proofs.GroupLineLemmas.{one_group}
-use Rattle.world_text.proofs.KeptLemmas.{one_kept}
+use Rattle.row_lang.proofs.KeptLemmas.{one_kept}
 use Rattle.world_text.proofs.FieldLemmas.{few_fields, one_field, one_field_text}
 use Rattle.world_text.proofs.LinePartLemmas.{one_entity, one_entry, one_number}
-use Rattle.world_text.proofs.NameLemmas.{IsFree, one_pool, same_name_split}
-use Rattle.world_text.proofs.NameListLemmas.{one_some, one_part}
+use Rattle.row_lang.proofs.NameLemmas.{IsFree, one_pool, same_name_split}
+use Rattle.row_lang.proofs.NameListLemmas.{one_some, one_part}
 use Rattle.world_text.proofs.PrintedValues.{few_kinds, row_kept, row_spelled, field_kept}
 use Rattle.world_text.proofs.RowCommandLemmas.{decl_at, row_text_at, field_parts}
 use Rattle.world_text.proofs.SplitLineLemmas.{split_line, same_verb, word_free}

@@ -15,12 +15,13 @@ use Rattle.world_text.specs.LineKinds.{Line}
 use Rattle.world_text.specs.Formats.{IsFormat, version_1}
 use Rattle.world_text.specs.Lines.{text_of}
 use Rattle.world_text.specs.Meaning.{world_of}
+use Rattle.world_text.specs.SystemLines.{systems_in}
 use Rattle.world_text.specs.Fitting.{fits, fit_after, last_section}
 use Rattle.world_text.specs.Documents.{IsFrontOf, IsBadFrontOf}
 use Rattle.world_text.specs.Scripts.{IsScriptLine, IsLineWrittenAs, IsLineFirst, IsScript, IsBegun, IsBadScriptLine, IsScripted, IsBadBehind, IsBadScriptedLine, first_line, last_line, script_line_text}
 use Rattle.world_text.specs.Verbs.{word_of}
 use Rattle.world_text.proofs.LawfulLemmas.{front_is_lawful, version_1_is_format}
-use Rattle.world_text.proofs.NameLemmas.{same_name_split}
+use Rattle.row_lang.proofs.NameLemmas.{same_name_split}
 use Rattle.world_text.proofs.OneLineLemmas.{AreDecls, one_line}
 use Rattle.world_text.proofs.ReadingLemmas.{fits_nowhere}
 use Rattle.world_text.proofs.SplitLineLemmas.{split_line, word_free, verb_in, said}
@@ -37,11 +38,12 @@ not_on format a (l ∷ c) b is_format e ended fit =
 same_front : (format : Format) (bytes : List ℕ) (d e : Document) (m n : ℕ) (x y : List ℕ) (p : IsFrontOf format bytes d m x) (q : IsFrontOf format bytes e n y) → p.lines ≡ q.lines → x ≡ y → (d ≡ e) × (m ≡ n) × (x ≡ y)
 same_front format bytes d e m n x y p q lines rests =
     let worlds = p.world_is ∙ ap (world_of format) lines ∙ sym q.world_is in
-    ((λ i. record { world = worlds i }), p.counted ∙ ap length lines ∙ sym q.counted, rests)
+    let systems = p.systems_are ∙ ap (λ (ls : List Line). (systems_in ls).closed) lines ∙ sym q.systems_are in
+    ((λ i. record { world = worlds i; systems = systems i }), p.counted ∙ ap length lines ∙ sym q.counted, rests)
 
 pub one_front : (format : Format) (bytes : List ℕ) (d e : Document) (m n : ℕ) (x y : List ℕ) → IsFormat format → IsFrontOf format bytes d m x → IsFrontOf format bytes e n y → (d ≡ e) × (m ≡ n) × (x ≡ y)
 one_front format bytes d e m n x y is_format p q =
-    elim (one_goes_on format is_format p.lines q.lines x y p.admissible.each q.admissible.each (sym p.spelled ∙ q.spelled)) as (λ _. (d ≡ e) × (m ≡ n) × (x ≡ y)) [
+    elim (one_goes_on format is_format p.lines q.lines x y p.admissible q.admissible (sym p.spelled ∙ q.spelled)) as (λ _. (d ≡ e) × (m ≡ n) × (x ≡ y)) [
       | inl h ↦
           let none = not_on format p.lines h.0 q.lines is_format h.1 p.ended q.admissible.fit in
           same_front format bytes d e m n x y p q (sym (h.1 ∙ ap (λ (c : List Line). p.lines ++ c) none ∙ append-nil p.lines)) (h.2 ∙ ap (λ (c : List Line). text_of format c ++ y) none)
@@ -53,7 +55,7 @@ one_front format bytes d e m n x y is_format p q =
 pub no_bad_front : (format : Format) (bytes : List ℕ) (d : Document) (m number : ℕ) (x : List ℕ) → IsFormat format → IsFrontOf format bytes d m x → IsBadFrontOf format bytes number → ⊥
 no_bad_front format bytes d m number x is_format p q =
     let bad = q.bad in
-    elim (one_goes_on format is_format bad.lines p.lines bad.rest x bad.admissible.each p.admissible.each (sym bad.spelled ∙ p.spelled)) as (λ _. ⊥) [
+    elim (one_goes_on format is_format bad.lines p.lines bad.rest x bad.admissible p.admissible (sym bad.spelled ∙ p.spelled)) as (λ _. ⊥) [
       | inl h ↦
           let none = not_past format is_format bytes number bad p.lines h.0 x h.1 h.2 p.admissible.each p.admissible.fit in
           q.unfinished (sym (ap last_section (h.1 ∙ ap (λ (c : List Line). bad.lines ++ c) none ∙ append-nil bad.lines)) ∙ p.ended)

@@ -13,13 +13,14 @@ use Rattle.world_text.specs.declared.format.Format.{Format}
 use Rattle.world_text.specs.declared.draft.Draft.{Draft}
 use Rattle.world_text.specs.LineKinds.{Line, NamedGroup}
 use Rattle.world_text.specs.LineKinds as line
-use Rattle.world_text.specs.Lines.{IsLine, IsNamedDecl, IsNamedGroup, line_text, lists_text, kind_text, decl_text}
+use Rattle.row_lang.specs.Naming.{IsNamedDecl}
+use Rattle.world_text.specs.Lines.{IsLine, IsNamedGroup, line_text, lists_text, kind_text, decl_text}
 use Rattle.world_text.specs.Reading.{IsNumberLine, IsWordSplit}
-use Rattle.world_text.specs.Drafts.{Refuses, RefusesLine}
+use Rattle.world_text.specs.Drafts.{Refuses, RefusesOthers, IsNoBody}
 use Rattle.world_text.proofs.WordLemmas.{same_split, name_lacks, kinds_spaced, kinds_free}
 use Rattle.world_text.proofs.Tags.{tag}
 
--- the kind of line that begins with a byte, and 0 where none does
+-- the kind of line, beside those of systems, that begins with a byte, and 0 where none does
 abbrev tag_of_byte : ℕ → ℕ
 tag_of_byte byte =
     if byte == 119 then 1 else
@@ -31,7 +32,8 @@ tag_of_byte byte =
     if byte == 112 then 6 else
     if byte == 114 then 7 else
     if byte == 101 then 8 else
-    if byte == 103 then 9 else 0
+    if byte == 103 then 9 else
+    if byte == 115 then 10 else 0
 
 -- the kind of the lines that begin a text
 abbrev tag_at : List ℕ → ℕ
@@ -45,20 +47,22 @@ tag_at_free : (live : Bool) (number more : List ℕ) → tag_at (((if live then 
 tag_at_free true number more = refl
 tag_at_free false number more = refl
 
-tag_at_line : (format : Format) (l : Line) (more : List ℕ) → tag_at (line_text format l ++ more) ≡ tag l
-tag_at_line format line.Version more = refl
-tag_at_line format (line.Component decl) more = refl
-tag_at_line format (line.Group named) more = refl
-tag_at_line format (line.Tick tick) more = refl
-tag_at_line format (line.Slot slot) more = tag_at_free slot.live (decimal slot.version) more
-tag_at_line format (line.Next index) more = refl
-tag_at_line format (line.Pool name) more = refl
-tag_at_line format (line.Row entity values) more = refl
-tag_at_line format line.End more = refl
+tag_at_line : (format : Format) (l : Line) (more : List ℕ) → IsNoBody l → tag_at (line_text format l ++ more) ≡ tag l
+tag_at_line format line.Version more no_body = refl
+tag_at_line format (line.Component decl) more no_body = refl
+tag_at_line format (line.Group named) more no_body = refl
+tag_at_line format (line.System name) more no_body = refl
+tag_at_line format (line.Body names body) more no_body = absurd no_body
+tag_at_line format (line.Tick tick) more no_body = refl
+tag_at_line format (line.Slot slot) more no_body = tag_at_free slot.live (decimal slot.version) more
+tag_at_line format (line.Next index) more no_body = refl
+tag_at_line format (line.Pool name) more no_body = refl
+tag_at_line format (line.Row entity values) more no_body = refl
+tag_at_line format line.End more no_body = refl
 
 -- the kind of a line at the front of a text
-tag_is : (format : Format) (text : List ℕ) (l : Line) (more : List ℕ) → text ≡ line_text format l ++ 10 ∷ more → tag_at text ≡ tag l
-tag_is format text l more e = ap tag_at e ∙ tag_at_line format l (10 ∷ more)
+tag_is : (format : Format) (text : List ℕ) (l : Line) (more : List ℕ) → IsNoBody l → text ≡ line_text format l ++ 10 ∷ more → tag_at text ≡ tag l
+tag_is format text l more no_body e = ap tag_at e ∙ tag_at_line format l (10 ∷ more) no_body
 
 -- ---- numbers
 
@@ -67,21 +71,23 @@ pub same_number_line : (limit m n : ℕ) (text x y : List ℕ) → limit < 2 ^ 6
 same_number_line limit m n text x y small a b =
     (same_number m n (10 ∷ x) (10 ∷ y) (omega (arith, a.within)) (omega (arith, b.within)) (inl (omega arith)) (inl (omega arith)) (sym a.whole ∙ b.whole)).0
 
-version_refused : (draft : Draft) (text more : List ℕ) (l : Line) → 1 ≡ tag l → (text ≡ decimal draft.format.version ++ 10 ∷ more → Refuses draft line.Version) → codes "world " ++ text ≡ line_text draft.format l ++ 10 ∷ more → Refuses draft l
-version_refused draft text more line.Version kind none e = none (ap (drop 6) e)
-version_refused draft text more l kind none e = absurd (omega arith)
+version_refused : (draft : Draft) (text more : List ℕ) (l : Line) → IsNoBody l → 1 ≡ tag l → (text ≡ decimal draft.format.version ++ 10 ∷ more → Refuses draft line.Version) → codes "world " ++ text ≡ line_text draft.format l ++ 10 ∷ more → Refuses draft l
+version_refused draft text more line.Version no_body kind none e = none (ap (drop 6) e)
+version_refused draft text more (line.Body names body) no_body kind none e = absurd no_body
+version_refused draft text more l no_body kind none e = absurd (omega arith)
 
 -- behind the word `world` stands the format's number
-pub refuses_version : (draft : Draft) (text : List ℕ) → ((more : List ℕ) → text ≡ decimal draft.format.version ++ 10 ∷ more → Refuses draft line.Version) → RefusesLine draft (codes "world " ++ text)
-refuses_version draft text none = λ l more is e. version_refused draft text more l (tag_is draft.format (codes "world " ++ text) l more e) (none more) e
+pub refuses_version : (draft : Draft) (text : List ℕ) → ((more : List ℕ) → text ≡ decimal draft.format.version ++ 10 ∷ more → Refuses draft line.Version) → RefusesOthers draft (codes "world " ++ text)
+refuses_version draft text none = λ l more no_body is e. version_refused draft text more l no_body (tag_is draft.format (codes "world " ++ text) l more no_body e) (none more) e
 
-next_refused : (draft : Draft) (text more : List ℕ) (l : Line) → 5 ≡ tag l → ((index : ℕ) → index < draft.format.slot_limit → text ≡ decimal index ++ 10 ∷ more → Refuses draft (line.Next index)) → IsLine draft.format l → codes "next " ++ text ≡ line_text draft.format l ++ 10 ∷ more → Refuses draft l
-next_refused draft text more (line.Next index) kind none is e = none index is (ap (drop 5) e)
-next_refused draft text more l kind none is e = absurd (omega arith)
+next_refused : (draft : Draft) (text more : List ℕ) (l : Line) → IsNoBody l → 5 ≡ tag l → ((index : ℕ) → index < draft.format.slot_limit → text ≡ decimal index ++ 10 ∷ more → Refuses draft (line.Next index)) → IsLine draft.format l → codes "next " ++ text ≡ line_text draft.format l ++ 10 ∷ more → Refuses draft l
+next_refused draft text more (line.Next index) no_body kind none is e = none index is (ap (drop 5) e)
+next_refused draft text more (line.Body names body) no_body kind none is e = absurd no_body
+next_refused draft text more l no_body kind none is e = absurd (omega arith)
 
 -- behind the word `next` stands an index
-pub refuses_next : (draft : Draft) (text : List ℕ) → ((index : ℕ) (more : List ℕ) → index < draft.format.slot_limit → text ≡ decimal index ++ 10 ∷ more → Refuses draft (line.Next index)) → RefusesLine draft (codes "next " ++ text)
-refuses_next draft text none = λ l more is e. next_refused draft text more l (tag_is draft.format (codes "next " ++ text) l more e) (λ index. none index more) is e
+pub refuses_next : (draft : Draft) (text : List ℕ) → ((index : ℕ) (more : List ℕ) → index < draft.format.slot_limit → text ≡ decimal index ++ 10 ∷ more → Refuses draft (line.Next index)) → RefusesOthers draft (codes "next " ++ text)
+refuses_next draft text none = λ l more no_body is e. next_refused draft text more l no_body (tag_is draft.format (codes "next " ++ text) l more no_body e) (λ index. none index more) is e
 
 -- a slot's word says whether it is live, and behind it stands its version
 slot_parts : (live has : Bool) (text number more : List ℕ) → (if live then codes "live " else codes "free ") ++ text ≡ ((if has then codes "live " else codes "free ") ++ number) ++ more → (live ≡ has) × (text ≡ number ++ more)
@@ -90,34 +96,37 @@ slot_parts false false text number more e = (refl, ap (drop 5) e)
 slot_parts true false text number more e = absurd (omega (arith, ap (λ (t : List ℕ). get_or t 0 0) e))
 slot_parts false true text number more e = absurd (omega (arith, ap (λ (t : List ℕ). get_or t 0 0) e))
 
-slot_refused : (draft : Draft) (live : Bool) (text more : List ℕ) (l : Line) → 4 ≡ tag l → ((version : ℕ) → version < draft.format.profile.version_limit → text ≡ decimal version ++ 10 ∷ more → Refuses draft (line.Slot (record { version = version; live = live }))) → IsLine draft.format l → (if live then codes "live " else codes "free ") ++ text ≡ line_text draft.format l ++ 10 ∷ more → Refuses draft l
-slot_refused draft live text more (line.Slot slot) kind none is e =
+slot_refused : (draft : Draft) (live : Bool) (text more : List ℕ) (l : Line) → IsNoBody l → 4 ≡ tag l → ((version : ℕ) → version < draft.format.profile.version_limit → text ≡ decimal version ++ 10 ∷ more → Refuses draft (line.Slot (record { version = version; live = live }))) → IsLine draft.format l → (if live then codes "live " else codes "free ") ++ text ≡ line_text draft.format l ++ 10 ∷ more → Refuses draft l
+slot_refused draft live text more (line.Slot slot) no_body kind none is e =
     let parts = slot_parts live slot.live text (decimal slot.version) (10 ∷ more) e in
     subst (λ (b : Bool). Refuses draft (line.Slot (record { version = slot.version; live = b }))) parts.0 (none slot.version is parts.1)
-slot_refused draft live text more l kind none is e = absurd (omega arith)
+slot_refused draft live text more (line.Body names body) no_body kind none is e = absurd no_body
+slot_refused draft live text more l no_body kind none is e = absurd (omega arith)
 
 -- behind the word `live` or `free` stands a version
-pub refuses_slot : (draft : Draft) (live : Bool) (text : List ℕ) → ((version : ℕ) (more : List ℕ) → version < draft.format.profile.version_limit → text ≡ decimal version ++ 10 ∷ more → Refuses draft (line.Slot (record { version = version; live = live }))) → RefusesLine draft ((if live then codes "live " else codes "free ") ++ text)
-refuses_slot draft live text none = λ l more is e.
-    slot_refused draft live text more l (sym (tag_at_slot live text) ∙ tag_is draft.format ((if live then codes "live " else codes "free ") ++ text) l more e) (λ version. none version more) is e
+pub refuses_slot : (draft : Draft) (live : Bool) (text : List ℕ) → ((version : ℕ) (more : List ℕ) → version < draft.format.profile.version_limit → text ≡ decimal version ++ 10 ∷ more → Refuses draft (line.Slot (record { version = version; live = live }))) → RefusesOthers draft ((if live then codes "live " else codes "free ") ++ text)
+refuses_slot draft live text none = λ l more no_body is e.
+    slot_refused draft live text more l no_body (sym (tag_at_slot live text) ∙ tag_is draft.format ((if live then codes "live " else codes "free ") ++ text) l more no_body e) (λ version. none version more) is e
 
 -- ---- names
 
-pool_refused : (draft : Draft) (text more : List ℕ) (l : Line) → 6 ≡ tag l → ((name : List ℕ) → is_name name ≡ true → text ≡ name ++ 10 ∷ more → Refuses draft (line.Pool name)) → IsLine draft.format l → codes "pool " ++ text ≡ line_text draft.format l ++ 10 ∷ more → Refuses draft l
-pool_refused draft text more (line.Pool name) kind none is e = none name is (ap (drop 5) e)
-pool_refused draft text more l kind none is e = absurd (omega arith)
+pool_refused : (draft : Draft) (text more : List ℕ) (l : Line) → IsNoBody l → 6 ≡ tag l → ((name : List ℕ) → is_name name ≡ true → text ≡ name ++ 10 ∷ more → Refuses draft (line.Pool name)) → IsLine draft.format l → codes "pool " ++ text ≡ line_text draft.format l ++ 10 ∷ more → Refuses draft l
+pool_refused draft text more (line.Pool name) no_body kind none is e = none name is (ap (drop 5) e)
+pool_refused draft text more (line.Body names body) no_body kind none is e = absurd no_body
+pool_refused draft text more l no_body kind none is e = absurd (omega arith)
 
 -- behind the word `pool` stands a name
-pub refuses_pool : (draft : Draft) (text : List ℕ) → ((name more : List ℕ) → is_name name ≡ true → text ≡ name ++ 10 ∷ more → Refuses draft (line.Pool name)) → RefusesLine draft (codes "pool " ++ text)
-refuses_pool draft text none = λ l more is e. pool_refused draft text more l (tag_is draft.format (codes "pool " ++ text) l more e) (λ name. none name more) is e
+pub refuses_pool : (draft : Draft) (text : List ℕ) → ((name more : List ℕ) → is_name name ≡ true → text ≡ name ++ 10 ∷ more → Refuses draft (line.Pool name)) → RefusesOthers draft (codes "pool " ++ text)
+refuses_pool draft text none = λ l more no_body is e. pool_refused draft text more l no_body (tag_is draft.format (codes "pool " ++ text) l more no_body e) (λ name. none name more) is e
 
-component_refused : (draft : Draft) (text more : List ℕ) (l : Line) → 2 ≡ tag l → ((decl : Decl) → IsNamedDecl decl → text ≡ decl_text decl ++ 10 ∷ more → Refuses draft (line.Component decl)) → IsLine draft.format l → codes "component " ++ text ≡ line_text draft.format l ++ 10 ∷ more → Refuses draft l
-component_refused draft text more (line.Component decl) kind none is e = none decl is (ap (drop 10) e)
-component_refused draft text more l kind none is e = absurd (omega arith)
+component_refused : (draft : Draft) (text more : List ℕ) (l : Line) → IsNoBody l → 2 ≡ tag l → ((decl : Decl) → IsNamedDecl decl → text ≡ decl_text decl ++ 10 ∷ more → Refuses draft (line.Component decl)) → IsLine draft.format l → codes "component " ++ text ≡ line_text draft.format l ++ 10 ∷ more → Refuses draft l
+component_refused draft text more (line.Component decl) no_body kind none is e = none decl is (ap (drop 10) e)
+component_refused draft text more (line.Body names body) no_body kind none is e = absurd no_body
+component_refused draft text more l no_body kind none is e = absurd (omega arith)
 
 -- behind the word `component` stands a component
-pub refuses_component : (draft : Draft) (text : List ℕ) → ((decl : Decl) (more : List ℕ) → IsNamedDecl decl → text ≡ decl_text decl ++ 10 ∷ more → Refuses draft (line.Component decl)) → RefusesLine draft (codes "component " ++ text)
-refuses_component draft text none = λ l more is e. component_refused draft text more l (tag_is draft.format (codes "component " ++ text) l more e) (λ decl. none decl more) is e
+pub refuses_component : (draft : Draft) (text : List ℕ) → ((decl : Decl) (more : List ℕ) → IsNamedDecl decl → text ≡ decl_text decl ++ 10 ∷ more → Refuses draft (line.Component decl)) → RefusesOthers draft (codes "component " ++ text)
+refuses_component draft text none = λ l more no_body is e. component_refused draft text more l no_body (tag_is draft.format (codes "component " ++ text) l more no_body e) (λ decl. none decl more) is e
 
 -- a text cut at its first line end (10) begins with one name
 pub name_is_front : (text front back name more : List ℕ) → IsCut text 10 front back → is_name name ≡ true → text ≡ name ++ 10 ∷ more → front ≡ name
@@ -139,10 +148,22 @@ component_parts text word kinds decl split is e =
 
 -- ---- groups
 
-group_refused : (draft : Draft) (text more : List ℕ) (l : Line) → 9 ≡ tag l → ((named : NamedGroup) → IsNamedGroup named → text ≡ lists_text named ++ 10 ∷ more → Refuses draft (line.Group named)) → IsLine draft.format l → codes "group" ++ text ≡ line_text draft.format l ++ 10 ∷ more → Refuses draft l
-group_refused draft text more (line.Group named) kind none is e = none named is (ap (drop 5) e)
-group_refused draft text more l kind none is e = absurd (omega arith)
+group_refused : (draft : Draft) (text more : List ℕ) (l : Line) → IsNoBody l → 9 ≡ tag l → ((named : NamedGroup) → IsNamedGroup named → text ≡ lists_text named ++ 10 ∷ more → Refuses draft (line.Group named)) → IsLine draft.format l → codes "group" ++ text ≡ line_text draft.format l ++ 10 ∷ more → Refuses draft l
+group_refused draft text more (line.Group named) no_body kind none is e = none named is (ap (drop 5) e)
+group_refused draft text more (line.Body names body) no_body kind none is e = absurd no_body
+group_refused draft text more l no_body kind none is e = absurd (omega arith)
 
 -- behind the word `group` stand the names of a group
-pub refuses_group : (draft : Draft) (text : List ℕ) → ((named : NamedGroup) (more : List ℕ) → IsNamedGroup named → text ≡ lists_text named ++ 10 ∷ more → Refuses draft (line.Group named)) → RefusesLine draft (codes "group" ++ text)
-refuses_group draft text none = λ l more is e. group_refused draft text more l (tag_is draft.format (codes "group" ++ text) l more e) (λ named. none named more) is e
+pub refuses_group : (draft : Draft) (text : List ℕ) → ((named : NamedGroup) (more : List ℕ) → IsNamedGroup named → text ≡ lists_text named ++ 10 ∷ more → Refuses draft (line.Group named)) → RefusesOthers draft (codes "group" ++ text)
+refuses_group draft text none = λ l more no_body is e. group_refused draft text more l no_body (tag_is draft.format (codes "group" ++ text) l more no_body e) (λ named. none named more) is e
+
+-- ---- systems
+
+system_refused : (draft : Draft) (text more : List ℕ) (l : Line) → IsNoBody l → 10 ≡ tag l → ((name : List ℕ) → is_name name ≡ true → text ≡ name ++ 10 ∷ more → Refuses draft (line.System name)) → IsLine draft.format l → codes "system " ++ text ≡ line_text draft.format l ++ 10 ∷ more → Refuses draft l
+system_refused draft text more (line.System name) no_body kind none is e = none name is (ap (drop 7) e)
+system_refused draft text more (line.Body names body) no_body kind none is e = absurd no_body
+system_refused draft text more l no_body kind none is e = absurd (omega arith)
+
+-- behind the word `system` stands a name
+pub refuses_system : (draft : Draft) (text : List ℕ) → ((name more : List ℕ) → is_name name ≡ true → text ≡ name ++ 10 ∷ more → Refuses draft (line.System name)) → RefusesOthers draft (codes "system " ++ text)
+refuses_system draft text none = λ l more no_body is e. system_refused draft text more l no_body (tag_is draft.format (codes "system " ++ text) l more no_body e) (λ name. none name more) is e

@@ -19,7 +19,8 @@ use Rattle.world_text.specs.LineKinds as line
 use Rattle.world_text.specs.Sections.{order, is_between}
 use Rattle.world_text.specs.Meaning.{decl_in, group_of, groups_in, slot_in, settled_from, settled}
 use Rattle.world_text.specs.Fitting.{last_section, are_listed, may_join, fits, fit_after}
-use Rattle.world_text.specs.Documents.{are_named_apart, named_of, group_line}
+use Rattle.row_lang.specs.Naming.{are_named_apart}
+use Rattle.world_text.specs.Documents.{named_of, group_line}
 use Rattle.world_text.proofs.GroupLemmas.{IsSaid, MayJoin}
 use Rattle.world_text.proofs.MeaningLemmas.{flat_map_push, keeps, groups_gain, last_section_push}
 use Rattle.world_text.proofs.SettledLemmas.{settled_next, unlisted_by_flag}
@@ -79,12 +80,12 @@ groups_fit format before decls (g ∷ groups) are low high said joins =
 -- ---- slots
 
 -- slots fit up to the limit
-pub slots_fit : (format : Format) (before : List Line) (ss : List Slot) → 4 ≤ order (last_section before) → order (last_section before) ≤ 5 → length (flat_map slot_in before) + length ss ≤ format.slot_limit → fit_after format before (map line.Slot ss) ≡ true
+pub slots_fit : (format : Format) (before : List Line) (ss : List Slot) → 5 ≤ order (last_section before) → order (last_section before) ≤ 6 → length (flat_map slot_in before) + length ss ≤ format.slot_limit → fit_after format before (map line.Slot ss) ≡ true
 slots_fit format before [] low high few = refl
 slots_fit format before (s ∷ ss) low high few =
     let l = line.Slot s in
     let gained : flat_map slot_in (before ++ l ∷ []) ≡ flat_map slot_in before ++ s ∷ [] = flat_map_push slot_in before l in
-    let rise : order (last_section (before ++ l ∷ [])) ≡ 5 = ap order (last_section_push before l high) in
+    let rise : order (last_section (before ++ l ∷ [])) ≡ 6 = ap order (last_section_push before l high) in
     and_from _ _ (and_from _ _ (between section.Tick section.Slots (last_section before) low high) (lt-ltb (length (flat_map slot_in before)) format.slot_limit (omega arith)))
     (slots_fit format (before ++ l ∷ []) ss (omega arith) (omega arith) (omega (arith, ap length gained, length-append (flat_map slot_in before) (s ∷ []))))
 
@@ -113,11 +114,11 @@ listed_any i (n ∷ ns) some =
     ] (times-cons i n ns)
 
 -- free indices fit where none comes twice and each is unsettled
-pub nexts_fit : (format : Format) (before : List Line) (ns : List ℕ) → 4 ≤ order (last_section before) → order (last_section before) ≤ 6 → ((i : ℕ) → times i ns ≤ 1) → ((i : ℕ) → 0 < times i ns → get_or (settled before) i true ≡ false) → fit_after format before (map line.Next ns) ≡ true
+pub nexts_fit : (format : Format) (before : List Line) (ns : List ℕ) → 5 ≤ order (last_section before) → order (last_section before) ≤ 7 → ((i : ℕ) → times i ns ≤ 1) → ((i : ℕ) → 0 < times i ns → get_or (settled before) i true ≡ false) → fit_after format before (map line.Next ns) ≡ true
 nexts_fit format before [] low high once open_at = refl
 nexts_fit format before (n ∷ ns) low high once open_at =
     let l = line.Next n in
-    let rise : order (last_section (before ++ l ∷ [])) ≡ 6 = ap order (last_section_push before l high) in
+    let rise : order (last_section (before ++ l ∷ [])) ≡ 7 = ap order (last_section_push before l high) in
     let no_more : times n ns ≡ 0 = omega (arith, times-here n ns, once n) in
     and_from _ _ (and_from _ _ (between section.Tick section.FreeList (last_section before) low high) (sym (unlisted_by_flag before n) ∙ not_from_false _ (open_at n (omega (arith, times-here n ns)))))
     (nexts_fit format (before ++ l ∷ []) ns (omega arith) (omega arith) (λ i. omega (arith, times-more i n ns, once i)) (λ i listed.

@@ -14,7 +14,8 @@ use Rattle.world_model.specs.Components as components
 use Rattle.world_model.specs.Slots.{is_live, AreLawfulSlots}
 use Rattle.world_model.specs.Worlds.{AreLawfulRows}
 use Rattle.world_text.specs.declared.format.Format.{Format}
-use Rattle.world_text.specs.Lines.{IsLine, IsNamedDecl}
+use Rattle.row_lang.specs.Naming.{IsNamedDecl}
+use Rattle.world_text.specs.Lines.{IsLine}
 use Rattle.world_text.specs.Documents.{row_line, pool_lines}
 use Rattle.world_text.proofs.PrintedValues.{row_short, row_spelled}
 

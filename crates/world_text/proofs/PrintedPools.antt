@@ -77,7 +77,7 @@ rows_fit format slots before done last decl (entry ∷ rows) are at is_decl abov
     let x : Entity × Row = (entry.0, row_of format.profile (values_in format.profile decl entry.1)) in
     let kept_slots : flat_map slot_in before ≡ flat_map slot_in (before ++ l ∷ []) = keeps slot_in before l _ refl refl in
     let kept_decls : flat_map decl_in before ≡ flat_map decl_in (before ++ l ∷ []) = keeps decl_in before l _ refl refl in
-    let place : order (last_section before) ≡ 7 = ap order at.last_section in
+    let place : order (last_section before) ≡ 8 = ap order at.last_section in
     let after : IsAtPool format (before ++ l ∷ []) done (last ++ x ∷ []) decl = record {
       last_section = last_section_push before l (omega arith);
       pools = pools_in-row format.profile before entry.0 (values_in format.profile decl entry.1) ∙ ap (λ (ps : List (List (Entity × Row))). set ps (length ps - 1) (get_or ps (length ps - 1) [] ++ x ∷ [])) at.pools ∙ set-last done last x;
@@ -111,12 +111,12 @@ pool_count profile pool before =
     ∙ ap length (pools_in-pool profile before pool.0.name)
     ∙ length_push (pools_in profile before) []
 
-low_rows : (profile : Profile) (decl : Decl) (rows : List (Entity × Row)) → order (last_section (map (row_line profile decl) rows)) ≤ 7
+low_rows : (profile : Profile) (decl : Decl) (rows : List (Entity × Row)) → order (last_section (map (row_line profile decl) rows)) ≤ 8
 low_rows profile decl [] = omega arith
 low_rows profile decl (entry ∷ rows) = omega (arith, order_later section.Pools (last_section (map (row_line profile decl) rows)), low_rows profile decl rows)
 
 -- the lines of a pool reach the pools and no further
-low_pool : (profile : Profile) (pool : Decl × List (Entity × Row)) → order (last_section (pool_lines profile pool)) ≤ 7
+low_pool : (profile : Profile) (pool : Decl × List (Entity × Row)) → order (last_section (pool_lines profile pool)) ≤ 8
 low_pool profile pool = omega (arith, order_later section.Pools (last_section (map (row_line profile pool.0) pool.1)), low_rows profile pool.0 pool.1)
 
 -- a list of parts that the lines of a pool leave
@@ -137,8 +137,8 @@ settled_behind profile pool before i = settled_from 0 (slots_behind profile pool
 
 -- lines behind which the pools of the components from one on are to come
 pub record IsBeforePools (format : Format) (slots : List Slot) (before : List Line) (done decls : List Decl) : Type 0 where
-  pub low : 4 ≤ order (last_section before)
-  pub high : order (last_section before) ≤ 7
+  pub low : 5 ≤ order (last_section before)
+  pub high : order (last_section before) ≤ 8
   pub slots_are : flat_map slot_in before ≡ slots
   pub settled : all_settled before ≡ true
   pub decls_are : flat_map decl_in before ≡ done ++ decls

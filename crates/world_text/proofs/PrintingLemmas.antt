@@ -6,13 +6,22 @@ use Rattle.std.specs.Iterator.Adapters.{zip_first, zip_second}
 use Rattle.std.specs.Slice.Iter.{iter_rest}
 use Rattle.std.proofs.iter.Yields.{fronts}
 use Rattle.std.proofs.lemmas.Iterator.{zips}
-use Rattle.std.proofs.lemmas.List.{append-nil, take-append-drop}
+use Rattle.std.proofs.lemmas.List.{append-nil, take-append-drop, take_more}
 use Rattle.std.proofs.lemmas.Grind.{flat_map-append}
 use Rattle.std.proofs.lemmas.Slice.Zip.{Zip-more, either_empty_from_Zip}
 use Rattle.std.proofs.Math.Seq.{take-append_seam}
+use Rattle.std.proofs.Common.{map, get_or, ◌<◌, ◌+◌}
+use Rattle.std.specs.List.{flat_map}
+use Rattle.world_model.specs.declared.component.Decl.{Decl}
+use Rattle.row_lang.specs.Naming.{names_of}
+use Rattle.row_lang.specs.Spelling.{first_line_text}
+use Rattle.row_lang.specs.Systems.{System, body_lines, body_text, system_text}
 use Rattle.world_text.specs.declared.format.Format.{Format}
+use Rattle.world_text.specs.LineKinds as line
+use Rattle.world_text.specs.Documents.{system_lines}
+use Rattle.world_text.specs.Formats.{version_1}
 use Rattle.world_text.specs.LineKinds.{Line}
-use Rattle.world_text.specs.Lines.{text_of}
+use Rattle.world_text.specs.Lines.{line_text, text_of}
 
 -- the pairs that a zip of two slices has left
 abbrev pub left_of : {A B : Type 0} → Zip (Iter A) (Iter B) → List (A × B)
@@ -76,3 +85,31 @@ zip-take zero xs ys = refl
 zip-take (suc n) [] ys = refl
 zip-take (suc n) (x ∷ xs) [] = refl
 zip-take (suc n) (x ∷ xs) (y ∷ ys) = ap (λ zs. (x, y) ∷ zs) (zip-take n xs ys)
+
+-- ---- systems
+
+flat_map-map : {X Y : Type 0} (f : Y → List ℕ) (g : X → Y) (xs : List X) → flat_map f (map g xs) ≡ flat_map (λ x. f (g x)) xs
+flat_map-map f g [] = refl
+flat_map-map f g (x ∷ xs) = ap (λ ys. f (g x) ++ ys) (flat_map-map f g xs)
+
+-- the text of a system is that of its lines
+pub system_spelled : (decls : List Decl) (system : System) → text_of version_1 (system_lines decls system) ≡ system_text (names_of decls) system
+system_spelled decls system =
+    ap (λ text. (first_line_text system.name ++ 10 ∷ []) ++ text) (flat_map-map (λ l. line_text version_1 l ++ 10 ∷ []) (line.Body (names_of decls)) (body_lines system))
+    ∙ append_assoc (first_line_text system.name) (10 ∷ []) (body_text (names_of decls) (body_lines system))
+
+-- and with one more
+pub systems_push : (decls : List Decl) (systems : List System) (system : System) → text_of version_1 (flat_map (system_lines decls) (systems ++ system ∷ [])) ≡ text_of version_1 (flat_map (system_lines decls) systems) ++ system_text (names_of decls) system
+systems_push decls systems system =
+    ap (text_of version_1) (flat_map-append (system_lines decls) systems (system ∷ []) ∙ ap (λ ls. flat_map (system_lines decls) systems ++ ls) (append-nil (system_lines decls system)))
+    ∙ text_of-append version_1 (flat_map (system_lines decls) systems) (system_lines decls system)
+    ∙ ap (λ text. text_of version_1 (flat_map (system_lines decls) systems) ++ text) (system_spelled decls system)
+
+-- printing one system more in a loop
+pub systems_printed_more : (decls : List Decl) (systems : List System) (index : ℕ) (item : System) (start old new : List ℕ) → index < length systems → item ≡ get_or systems index item → old ≡ start ++ text_of version_1 (flat_map (system_lines decls) (take index systems)) → new ≡ old ++ system_text (names_of decls) item → new ≡ start ++ text_of version_1 (flat_map (system_lines decls) (take (index + 1) systems))
+systems_printed_more decls systems index item start old new within is before pushed =
+    let one : take (index + 1) systems ≡ take index systems ++ item ∷ [] = take_more systems index item within ∙ ap (λ (s : System). take index systems ++ s ∷ []) (sym is) in
+    pushed
+    ∙ ap (λ text. text ++ system_text (names_of decls) item) before
+    ∙ append_assoc start _ _
+    ∙ ap (λ text. start ++ text) (sym (ap (λ (ls : List System). text_of version_1 (flat_map (system_lines decls) ls)) one ∙ systems_push decls (take index systems) item))

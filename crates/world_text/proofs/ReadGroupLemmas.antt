@@ -13,15 +13,16 @@ use Rattle.world_model.specs.Groups.{are_distinct, group_pools, is_well_formed}
 use Rattle.world_model.specs.Names.{is_name, begins_with_letter, is_name_byte}
 use Rattle.world_text.specs.declared.draft.Draft.{Draft}
 use Rattle.world_text.specs.declared.section.Section.TheVariants as section
-use Rattle.world_text.specs.Documents.{are_named_apart, named_of}
-use Rattle.world_text.specs.Drafts.{TakesLine, RefusesLine, TakesGroup, RefusesGroup}
+use Rattle.row_lang.specs.Naming.{are_named_apart}
+use Rattle.world_text.specs.Documents.{named_of}
+use Rattle.world_text.specs.Drafts.{TakesLine, RefusesOthers, TakesGroup, RefusesGroup}
 use Rattle.world_text.specs.Fitting.{are_of_components, are_listed, may_join, fits, last_section}
 use Rattle.world_text.specs.GroupLines.{group_text, IsGroupFirst, IsGroupList}
 use Rattle.world_text.specs.LineKinds.{Line, NamedGroup}
 use Rattle.world_text.specs.LineKinds as line
 use Rattle.world_text.specs.Lines.{IsNamedGroup, lists_text}
 use Rattle.world_text.specs.Meaning.{decl_in, groups_in, group_of, pools_named}
-use Rattle.world_text.specs.NameLists.{name_at, names_text, part_text, IsCalled, AreNamedOnce}
+use Rattle.row_lang.specs.NameLists.{name_at, names_text, part_text, IsCalled, AreNamedOnce}
 use Rattle.world_text.specs.Sections.{is_between}
 use Rattle.world_text.proofs.GroupTextLemmas.{group_lacks, same_group_text}
 use Rattle.world_text.proofs.NamedPoolLemmas.{told, told_back, names_formed, named_permuted, named_rise, kept_by_names, called_permuted, once_permuted}
@@ -71,7 +72,7 @@ read_group decls text decl after apart first =
 -- a group that was read and added
 pub group_taken : (old new : Draft) (text : List ℕ) (decl : GroupDecl) (after : List ℕ) → IsGroupFirst old.decls.items text decl after → TakesGroup old decl new → TakesLine old (codes "group" ++ text) after new
 group_taken old new text decl after first taken =
-    let g = read_group old.decls.items text decl after old.apart first in
+    let g = read_group old.decls.items text decl after old.named.apart first in
     record {
       line = line.Group g.named;
       is = g.is;
@@ -80,9 +81,9 @@ group_taken old new text decl after first taken =
     }
 
 -- a group that was read and not added
-pub group_not_added : (draft : Draft) (text : List ℕ) (decl : GroupDecl) (after : List ℕ) → IsGroupFirst draft.decls.items text decl after → RefusesGroup draft decl → RefusesLine draft (codes "group" ++ text)
+pub group_not_added : (draft : Draft) (text : List ℕ) (decl : GroupDecl) (after : List ℕ) → IsGroupFirst draft.decls.items text decl after → RefusesGroup draft decl → RefusesOthers draft (codes "group" ++ text)
 group_not_added draft text decl after first refused =
-    let g = read_group draft.decls.items text decl after draft.apart first in
+    let g = read_group draft.decls.items text decl after draft.named.apart first in
     refuses_group draft text (λ named more is e.
     let cut = same_cut 10 (lists_text g.named) (lists_text named) after more (group_lacks g.named g.is) (group_lacks named is) (sym g.spelled ∙ e) in
     let one = same_group_text g.named named g.is is cut.0 in
@@ -174,7 +175,7 @@ fitting_is_first decls groups text named more apart is spelled listed joins =
     }
 
 -- where no group was read, none fits
-pub group_not_read : (draft : Draft) (text : List ℕ) → ((decl : GroupDecl) (after : List ℕ) → IsGroupFirst draft.decls.items text decl after → ⊥) → RefusesLine draft (codes "group" ++ text)
+pub group_not_read : (draft : Draft) (text : List ℕ) → ((decl : GroupDecl) (after : List ℕ) → IsGroupFirst draft.decls.items text decl after → ⊥) → RefusesOthers draft (codes "group" ++ text)
 group_not_read draft text none = refuses_group draft text (λ named more is e before s.
     elim (cases_Bool (fits draft.format before (line.Group named))) [
       | inr none_fits ↦ none_fits
@@ -183,5 +184,5 @@ group_not_read draft text none = refuses_group draft text (λ named more is e be
           let both = and_parts (are_listed (flat_map decl_in before) named) (may_join (groups_in before) (group_of (flat_map decl_in before) named)) tests.1 in
           let listed : are_listed draft.decls.items named ≡ true = ap (λ (ds : List Decl). are_listed ds named) s.decls ∙ both.0 in
           let joins : may_join (groups_in before) (group_of draft.decls.items named) ≡ true = ap (λ (ds : List Decl). may_join (groups_in before) (group_of ds named)) s.decls ∙ both.1 in
-          absurd (none (group_of draft.decls.items named) more (fitting_is_first draft.decls.items (groups_in before) text named more draft.apart is e listed joins))
+          absurd (none (group_of draft.decls.items named) more (fitting_is_first draft.decls.items (groups_in before) text named more draft.named.apart is e listed joins))
     ])

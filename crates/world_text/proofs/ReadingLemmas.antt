@@ -13,9 +13,10 @@ use Rattle.world_text.specs.LineKinds as line
 use Rattle.world_text.specs.Lines.{IsLine, line_text, text_of}
 use Rattle.world_text.specs.Sections.{is_between}
 use Rattle.world_text.specs.Meaning.{pools_in}
+use Rattle.world_text.specs.SystemLines.{SystemsSoFar}
 use Rattle.world_text.specs.Fitting.{fits, fit_after, last_section}
 use Rattle.world_text.specs.Documents.{AreAdmissible, IsDocumentOf, IsBadLineOf, IsFrontOf, IsBadFrontOf}
-use Rattle.world_text.specs.Drafts.{Stands, TakesLine, RefusesLine, world_in}
+use Rattle.world_text.specs.Drafts.{Stands, TakesLine, RefusesLine, document_in}
 use Rattle.world_text.proofs.AddingLemmas.{and_true}
 
 -- the lines at the front of the bytes are admissible, and the draft stands for them
@@ -85,14 +86,14 @@ bad_next format bytes draft count rest h none unfinished = record {
 }
 
 -- a draft whose lines are read up to the end stands for the document at the front
-pub front_read : (format : Format) (bytes : List ℕ) (draft : Draft) (count : ℕ) (rest : List ℕ) (document : Document) → HasRead format bytes draft count rest → draft.section ≡ section.End → document.world ≡ world_in draft → IsFrontOf format bytes document count rest
-front_read format bytes draft count rest document h ended world = record {
+pub front_read : (format : Format) (bytes : List ℕ) (draft : Draft) (count : ℕ) (rest : List ℕ) (document : Document) → HasRead format bytes draft count rest → draft.section ≡ section.End → document ≡ document_in draft → IsFrontOf format bytes document count rest
+front_read format bytes draft count rest document h ended is = record {
   lines = h.lines;
   admissible = h.admissible;
   ended = sym h.stands.section ∙ ended;
   counted = h.counted;
   spelled = h.spelled;
-  world_is = world ∙ (λ i. record {
+  world_is = ap (λ (d : Document). d.world) is ∙ (λ i. record {
     profile = (h.same_format i).profile;
     decls = h.stands.decls i;
     groups = h.stands.groups i;
@@ -101,6 +102,7 @@ front_read format bytes draft count rest document h ended world = record {
     free = h.stands.free i;
     pools = (h.stands.pools ∙ ap (λ f. pools_in f.profile h.lines) h.same_format) i;
   });
+  systems_are = ap (λ (d : Document). d.systems) is ∙ ap (λ (systems : SystemsSoFar). systems.closed) h.stands.systems;
 }
 
 -- a document at the front with nothing behind it is the whole text
@@ -111,6 +113,7 @@ whole_front format bytes document count h = record {
   ended = h.ended;
   spelled = h.spelled ∙ append-nil (text_of format h.lines);
   world_is = h.world_is;
+  systems_are = h.systems_are;
 }
 
 -- no line is admissible behind the end
@@ -118,7 +121,9 @@ pub fits_nowhere : (format : Format) (before : List Line) (l : Line) → last_se
 fits_nowhere format before line.Version ended = ap (is_between section.Start section.Start) ended
 fits_nowhere format before (line.Component decl) ended = and_left _ _ (ap (is_between section.Version section.Components) ended)
 fits_nowhere format before (line.Group named) ended = and_left _ _ (ap (is_between section.Version section.Groups) ended)
-fits_nowhere format before (line.Tick tick) ended = ap (is_between section.Version section.Groups) ended
+fits_nowhere format before (line.System name) ended = and_left _ _ (ap (is_between section.Version section.Systems) ended)
+fits_nowhere format before (line.Body names body) ended = and_left _ _ (ap (is_between section.Systems section.Systems) ended)
+fits_nowhere format before (line.Tick tick) ended = and_left _ _ (ap (is_between section.Version section.Systems) ended)
 fits_nowhere format before (line.Slot slot) ended = and_left _ _ (ap (is_between section.Tick section.Slots) ended)
 fits_nowhere format before (line.Next index) ended = and_left _ _ (ap (is_between section.Tick section.FreeList) ended)
 fits_nowhere format before (line.Pool name) ended = and_left _ _ (ap (is_between section.Tick section.Pools) ended)

@@ -22,8 +22,10 @@ use Rattle.world_text.specs.Lines.{IsValue, value_text, values_text}
 use Rattle.world_text.specs.Meaning.{field_of_value, row_of}
 use Rattle.world_text.specs.Fitting.{is_of_kind, are_of_kinds}
 use Rattle.world_text.specs.Reading.{AreValuesOf, IsRowOf, IsValueFirst, IsFieldFirst}
-use Rattle.world_text.specs.Scripts.{row_text, field_text, field_value_text, kind_at}
-use Rattle.world_text.specs.ScriptReading.{EndsName, HasFewFields, IsEntityNext, IsEntryNext, IsFieldNext, IsRowLast, IsFieldLast}
+use Rattle.row_lang.specs.FieldNames.{field_text, kind_at}
+use Rattle.world_text.specs.Scripts.{row_text, field_value_text}
+use Rattle.row_lang.specs.Reading.{EndsName}
+use Rattle.world_text.specs.ScriptReading.{HasFewFields, IsEntityNext, IsEntryNext, IsFieldNext, IsRowLast, IsFieldLast}
 use Rattle.world_text.proofs.FieldLemmas.{one_field}
 use Rattle.world_text.proofs.LinePartLemmas.{one_entity, one_entry}
 use Rattle.world_text.proofs.LawfulRows.{field_holds, fields_beside, value_within, value_is_i64, kind_fits, row_fits, row_is_row}

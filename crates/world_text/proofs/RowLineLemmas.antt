@@ -23,7 +23,7 @@ use Rattle.world_text.specs.Sections.{is_between}
 use Rattle.world_text.specs.Meaning.{slot_in, pools_in}
 use Rattle.world_text.specs.Fitting.{is_above, are_of_kinds, last_section}
 use Rattle.world_text.specs.Reading.{AreValuesOf, IsRowOf}
-use Rattle.world_text.specs.Drafts.{are_of_last_kinds, Refuses, RefusesRow, RefusesLine, TakesRow, TakesLine}
+use Rattle.world_text.specs.Drafts.{are_of_last_kinds, Refuses, RefusesRow, RefusesOthers, IsNoBody, TakesRow, TakesLine}
 use Rattle.world_text.proofs.AddingLemmas.{and_false_right}
 use Rattle.world_text.proofs.TakingLemmas.{ends_on, of_kinds, same_length}
 
@@ -42,22 +42,24 @@ no_slot true text version more e = omega (arith, ap (λ (t : List ℕ). get_or t
 no_slot false text version more e = omega (arith, ap (λ (t : List ℕ). get_or t 0 0) e)
 
 -- a text behind the word of a row line that spells a line spells a row line
-pub row_text : (format : Format) (text more : List ℕ) (l : Line) → IsLine format l → codes "row " ++ text ≡ line_text format l ++ 10 ∷ more → IsRowText format text l more
-row_text format text more line.Version is e = absurd (omega (arith, ap (λ (t : List ℕ). get_or t 0 0) e))
-row_text format text more (line.Component decl) is e = absurd (omega (arith, ap (λ (t : List ℕ). get_or t 0 0) e))
-row_text format text more (line.Group named) is e = absurd (omega (arith, ap (λ (t : List ℕ). get_or t 0 0) e))
-row_text format text more (line.Tick tick) is e = absurd (omega (arith, ap (λ (t : List ℕ). get_or t 0 0) e))
-row_text format text more (line.Slot slot) is e = absurd (no_slot slot.live text (decimal slot.version) more e)
-row_text format text more (line.Next index) is e = absurd (omega (arith, ap (λ (t : List ℕ). get_or t 0 0) e))
-row_text format text more (line.Pool name) is e = absurd (omega (arith, ap (λ (t : List ℕ). get_or t 0 0) e))
-row_text format text more (line.Row entity values) is e = record {
+pub row_text : (format : Format) (text more : List ℕ) (l : Line) → IsNoBody l → IsLine format l → codes "row " ++ text ≡ line_text format l ++ 10 ∷ more → IsRowText format text l more
+row_text format text more line.Version no_body is e = absurd (omega (arith, ap (λ (t : List ℕ). get_or t 0 0) e))
+row_text format text more (line.Component decl) no_body is e = absurd (omega (arith, ap (λ (t : List ℕ). get_or t 0 0) e))
+row_text format text more (line.Group named) no_body is e = absurd (omega (arith, ap (λ (t : List ℕ). get_or t 0 0) e))
+row_text format text more (line.System name) no_body is e = absurd (omega (arith, ap (λ (t : List ℕ). get_or t 0 0) e))
+row_text format text more (line.Body names body) no_body is e = absurd no_body
+row_text format text more (line.Tick tick) no_body is e = absurd (omega (arith, ap (λ (t : List ℕ). get_or t 0 0) e))
+row_text format text more (line.Slot slot) no_body is e = absurd (no_slot slot.live text (decimal slot.version) more e)
+row_text format text more (line.Next index) no_body is e = absurd (omega (arith, ap (λ (t : List ℕ). get_or t 0 0) e))
+row_text format text more (line.Pool name) no_body is e = absurd (omega (arith, ap (λ (t : List ℕ). get_or t 0 0) e))
+row_text format text more (line.Row entity values) no_body is e = record {
   entity = entity;
   values = values;
   is_row = refl;
   is = is;
   whole = ap (drop 4) e ∙ append_assoc (entity_text format.profile entity) (values_text format.profile values) (10 ∷ more);
 }
-row_text format text more line.End is e = absurd (omega (arith, ap (λ (t : List ℕ). get_or t 0 0) e))
+row_text format text more line.End no_body is e = absurd (omega (arith, ap (λ (t : List ℕ). get_or t 0 0) e))
 
 -- it begins with the line's identifier
 entity_first : (format : Format) (text : List ℕ) (l : Line) (more : List ℕ) (h : IsRowText format text l more) → IsEntityFirst format.profile text h.entity (values_text format.profile h.values ++ 10 ∷ more)
@@ -106,23 +108,23 @@ takes_line old new text rest after entity row kinds decl first found is_kinds fe
     }
 
 -- a text that begins with no identifier
-pub no_entity : (draft : Draft) (text : List ℕ) → ((entity : Entity) (rest : List ℕ) → IsEntityFirst draft.format.profile text entity rest → ⊥) → RefusesLine draft (codes "row " ++ text)
-no_entity draft text none l more is e =
-    let h = row_text draft.format text more l is e in
+pub no_entity : (draft : Draft) (text : List ℕ) → ((entity : Entity) (rest : List ℕ) → IsEntityFirst draft.format.profile text entity rest → ⊥) → RefusesOthers draft (codes "row " ++ text)
+no_entity draft text none l more no_body is e =
+    let h = row_text draft.format text more l no_body is e in
     absurd (none h.entity (values_text draft.format.profile h.values ++ 10 ∷ more) (entity_first draft.format text l more h))
 
 -- a text whose identifier no values of the pool's kinds follow
-pub no_values : (draft : Draft) (text rest : List ℕ) (entity : Entity) (kinds : List Kind) (decl : Decl) → HasLimits draft.format.profile → IsEntityFirst draft.format.profile text entity rest → slice_get draft.decls.items (length draft.pools.items - 1) ≡ Some decl → kinds ≡ kinds_of decl → ((values : List FieldValue) (more : List ℕ) → AreValuesOf draft.format.profile kinds rest values more → ⊥) → RefusesLine draft (codes "row " ++ text)
-no_values draft text rest entity kinds decl limits first found is_kinds none l more is e =
-    let h = row_text draft.format text more l is e in
+pub no_values : (draft : Draft) (text rest : List ℕ) (entity : Entity) (kinds : List Kind) (decl : Decl) → HasLimits draft.format.profile → IsEntityFirst draft.format.profile text entity rest → slice_get draft.decls.items (length draft.pools.items - 1) ≡ Some decl → kinds ≡ kinds_of decl → ((values : List FieldValue) (more : List ℕ) → AreValuesOf draft.format.profile kinds rest values more → ⊥) → RefusesOthers draft (codes "row " ++ text)
+no_values draft text rest entity kinds decl limits first found is_kinds none l more no_body is e =
+    let h = row_text draft.format text more l no_body is e in
     let one = one_entity draft.format text l more entity rest h limits first in
     let kept = last_kinds draft kinds decl h.values found is_kinds in
     subst (λ (m : Line). Refuses draft m) (sym h.is_row)
     (refuses_kinds draft h.entity h.values (kept ∙ not_true_is_false (are_of_kinds kinds h.values) (λ yes. none h.values more (record { of_kinds = yes; each = h.is.each; whole = one.1 }))))
 
 -- a text whose identifier may not stand on the last pool
-pub no_place : (draft : Draft) (text rest : List ℕ) (entity : Entity) → HasLimits draft.format.profile → IsEntityFirst draft.format.profile text entity rest → RefusesRow draft entity → RefusesLine draft (codes "row " ++ text)
-no_place draft text rest entity limits first refused l more is e =
-    let h = row_text draft.format text more l is e in
+pub no_place : (draft : Draft) (text rest : List ℕ) (entity : Entity) → HasLimits draft.format.profile → IsEntityFirst draft.format.profile text entity rest → RefusesRow draft entity → RefusesOthers draft (codes "row " ++ text)
+no_place draft text rest entity limits first refused l more no_body is e =
+    let h = row_text draft.format text more l no_body is e in
     let one = one_entity draft.format text l more entity rest h limits first in
     subst (λ (m : Line). Refuses draft m) (ap (λ (x : Entity). line.Row x h.values) one.0 ∙ sym h.is_row) (refused h.values)

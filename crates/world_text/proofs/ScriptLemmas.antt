@@ -18,7 +18,8 @@ use Rattle.world_model.proofs.StepLemmas.{step_cases, remove_cases, group_cases,
 use Rattle.world_text.specs.declared.document.Document.{Document}
 use Rattle.world_text.specs.declared.script.ScriptLine.{ScriptLine}
 use Rattle.world_text.specs.declared.script.ScriptLine.TheVariants.{Run, Watch, Unwatch}
-use Rattle.world_text.specs.Documents.{AreNamedDecls, HasAscendingLists, IsLawfulDocument}
+use Rattle.row_lang.specs.Naming.{AreNamedDecls}
+use Rattle.world_text.specs.Documents.{HasAscendingLists, IsLawfulDocument, AreLawfulSystems}
 use Rattle.world_text.specs.Formats.{version_1}
 use Rattle.world_text.specs.Playing.{Watching, ScriptOutcome, is_watch_of, watch_limit, watch_outcome, unwatch_outcome, line_outcome, outcome_from, document_after}
 use Rattle.world_text.specs.Scripts.{IsCommandLine, IsScriptLine}
@@ -115,6 +116,7 @@ after_is_lawful document script lawful each =
       tick = subst (λ (tick : ℕ). tick ≤ 1000000000000) (sym kept.tick) lawful.tick;
       ascending = script_ascends version_1.slot_limit w [] script lines lawful.ascending;
       named = subst AreNamedDecls (sym kept.decls) lawful.named;
+      systems = subst (λ (decls : List Decl). AreLawfulSystems decls document.systems) (sym kept.decls) lawful.systems;
     }
 
 -- one line more

@@ -25,11 +25,13 @@ use Rattle.world_text.specs.declared.verbs.RowVerb.TheVariants as of_row
 use Rattle.world_text.specs.declared.verbs.Verb.{Verb}
 use Rattle.world_text.specs.declared.verbs.Verb.TheVariants as verb
 use Rattle.world_text.specs.GroupLines.{group_text}
-use Rattle.world_text.specs.NameLists.{name_at, names_text, part_text, IsCalled, AreNamedOnce}
-use Rattle.world_text.specs.Scripts.{entry_text, row_text, event_word, field_text, field_value_text, AreLists, IsLineFirst}
-use Rattle.world_text.specs.ScriptReading.{IsEntityNext, IsEntryNext, IsRowLast, AreEntityNames, IsKeptAs, IsViewLast, AreNamesLast, IsLineBehind}
+use Rattle.row_lang.specs.NameLists.{name_at, names_text, part_text, IsCalled, AreNamedOnce}
+use Rattle.row_lang.specs.FieldNames.{field_text}
+use Rattle.world_text.specs.Scripts.{entry_text, row_text, event_word, field_value_text, AreLists, IsLineFirst}
+use Rattle.row_lang.specs.Reading.{IsKeptAs}
+use Rattle.world_text.specs.ScriptReading.{IsEntityNext, IsEntryNext, IsRowLast, AreEntityNames, IsViewLast, AreNamesLast, IsLineBehind}
 use Rattle.world_text.specs.Verbs.{word_of, plain_word, plain_command, entity_word, entity_command, entry_word, entry_command, row_word, row_command, names_word, names_command}
-use Rattle.world_text.proofs.NameListLemmas.{pools_called, pools_spelled, part_called, part_once, part_spelled}
+use Rattle.row_lang.proofs.NameListLemmas.{pools_called, pools_spelled, part_called, part_once, part_spelled}
 
 -- ---- from the parts to the line
 

@@ -39,7 +39,7 @@ settled_push_slot : (i : ℕ) (slots : List Slot) (s : Slot) → settled_from i 
 settled_push_slot i [] s = ap (λ b. b ∷ []) (or_none s.live)
 settled_push_slot i (t ∷ slots) s = ap (λ x. (t.live || false) ∷ x) (settled_push_slot (suc i) slots s)
 
-pub settled_slot : (before : List Line) (s : Slot) → order (last_section before) < 6 → settled before ++ s.live ∷ [] ≡ settled (before ++ line.Slot s ∷ [])
+pub settled_slot : (before : List Line) (s : Slot) → order (last_section before) < 7 → settled before ++ s.live ∷ [] ≡ settled (before ++ line.Slot s ∷ [])
 settled_slot before s few =
     let none = no_next_yet before few in
     ap (λ x. settled_from 0 (flat_map slot_in before) x ++ s.live ∷ []) none

@@ -28,12 +28,14 @@ use Rattle.world_text.specs.declared.verbs.RowVerb.TheVariants as of_row
 use Rattle.world_text.specs.declared.verbs.Verb.{Verb}
 use Rattle.world_text.specs.declared.verbs.Verb.TheVariants as verb
 use Rattle.world_text.specs.GroupLines.{group_text}
-use Rattle.world_text.specs.NameLists.{name_at, names_text, part_text, IsCalled, AreNamedOnce}
-use Rattle.world_text.specs.Scripts.{entry_text, row_text, field_text, field_value_text, script_line_text, event_word, IsEntry, AreLists, IsLineFirst}
-use Rattle.world_text.specs.ScriptReading.{EndsName, IsNameSplit, IsLineBehind}
+use Rattle.row_lang.specs.NameLists.{name_at, names_text, part_text, IsCalled, AreNamedOnce}
+use Rattle.row_lang.specs.FieldNames.{field_text}
+use Rattle.world_text.specs.Scripts.{entry_text, row_text, field_value_text, script_line_text, event_word, IsEntry, AreLists, IsLineFirst}
+use Rattle.row_lang.specs.Reading.{EndsName, IsNameSplit}
+use Rattle.world_text.specs.ScriptReading.{IsLineBehind}
 use Rattle.world_text.specs.Verbs.{word_of, plain_word, plain_command, entity_word, entity_command, entry_word, entry_command, row_word, row_command, names_word, names_command}
-use Rattle.world_text.proofs.NameLemmas.{IsFree, same_name_split}
-use Rattle.world_text.proofs.NameListLemmas.{times-append, pools_of_text, part_of_text, part_ends, part_is_no_name, end_is_no_name, end_is_no_not}
+use Rattle.row_lang.proofs.NameLemmas.{IsFree, same_name_split}
+use Rattle.row_lang.proofs.NameListLemmas.{times-append, pools_of_text, part_of_text, part_ends, part_is_no_name, end_is_no_name, end_is_no_not}
 use Rattle.world_text.proofs.RowCommandLemmas.{row_ends}
 use Rattle.world_text.proofs.ScriptLineLemmas.{field_whole, pair_whole}
 

@@ -12,7 +12,8 @@ use Rattle.world_model.specs.Components.{kinds_of}
 use Rattle.world_model.specs.declared.component.Decl.{Decl}
 use Rattle.world_model.specs.declared.component.Kind.{Kind}
 use Rattle.world_model.specs.declared.component.Kind.TheVariants.{Int, Ref}
-use Rattle.world_text.specs.Lines.{kind_text, IsNamedDecl}
+use Rattle.row_lang.specs.Naming.{IsNamedDecl}
+use Rattle.world_text.specs.Lines.{kind_text}
 use Rattle.world_text.specs.Reading.{BeginsWithSpace}
 
 -- behind a literal word without a byte stands a text without it

@@ -11,7 +11,8 @@ use Rattle.world_text.specs.LineKinds.{Line}
 use Rattle.world_text.specs.LineKinds as line
 use Rattle.world_text.specs.declared.section.Section.TheVariants as section
 use Rattle.world_text.specs.Formats.{version_1}
-use Rattle.world_text.specs.Lines.{line_text, text_of, IsNamedDecl}
+use Rattle.row_lang.specs.Naming.{IsNamedDecl}
+use Rattle.world_text.specs.Lines.{line_text, text_of}
 use Rattle.world_text.specs.Meaning.{world_of}
 use Rattle.world_text.specs.Fitting.{last_section, fits, fit_after}
 use Rattle.world_text.specs.Documents.{lines_of, IsBadLine}
@@ -72,7 +73,7 @@ pub a_group_line_is_spelled_with_its_words : line_text version_1 (group (1 ∷ [
 unfolding digits
 a_group_line_is_spelled_with_its_words = refl
 
-pub groups_are_printed_behind_the_components : text_of version_1 (lines_of small_world) ≡
+pub groups_are_printed_behind_the_components : text_of version_1 (lines_of (record { world = small_world; systems = [] })) ≡
     codes "world 1\ncomponent c0\ncomponent c1\ncomponent c2\ncomponent c3\ngroup own c0 c1 not c2 c3\ngroup own c0 c1\ntick 0\npool c0\npool c1\npool c2\npool c3\nend\n"
 unfolding digits
 groups_are_printed_behind_the_components = refl
@@ -132,4 +133,4 @@ pub a_group_twice_is_line_4 : IsBadLine (codes "world 1\ncomponent a\ngroup own 
 unfolding digits
 a_group_twice_is_line_4 =
     first_bad (line.Version ∷ line.Component (tag (codes "a")) ∷ own (codes "a" ∷ []) ∷ []) (own (codes "a" ∷ [])) (codes "tick 0\n") (record { each = (tt, (tag_is_named, (record { own = (refl, tt); get = tt; without = tt; some = omega arith }, tt))); fit = refl })
-    (record { own = (refl, tt); get = tt; without = tt; some = omega arith }) refl
+    (record { own = (refl, tt); get = tt; without = tt; some = omega arith }) tt refl refl

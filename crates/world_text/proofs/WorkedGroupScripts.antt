@@ -17,7 +17,7 @@ lists own get without = record { own = own; get = get; without = without }
 
 -- a document with these groups
 abbrev with_groups : Document → List GroupDecl → Document
-with_groups document groups = record { world = record document.world { groups = groups } }
+with_groups document groups = record document { world = record document.world { groups = groups } }
 
 -- what a script prints before its document
 abbrev printed : Document → List ScriptLine → List ℕ
@@ -74,6 +74,7 @@ with_rows = record {
   world = record (of (ints (codes "k") 1 ∷ ints (codes "m") 0 ∷ []) (live ∷ live ∷ live ∷ live ∷ [])).world {
     pools = ((id 0 0, row 3) ∷ (id 1 0, row 1) ∷ (id 2 0, row 1) ∷ (id 3 0, row 2) ∷ []) ∷ ((id 2 0, row 0) ∷ []) ∷ [];
   };
+  systems = [];
 }
 
 abbrev sorted_and_grouped : List ScriptLine

@@ -62,6 +62,8 @@ pub after_an_end_no_line_fits : (l : Line) → fits version_1 empty_lines l ≡ 
 after_an_end_no_line_fits line.Version = refl
 after_an_end_no_line_fits (line.Component decl) = refl
 after_an_end_no_line_fits (line.Group named) = refl
+after_an_end_no_line_fits (line.System name) = refl
+after_an_end_no_line_fits (line.Body names body) = refl
 after_an_end_no_line_fits (line.Tick tick) = refl
 after_an_end_no_line_fits (line.Slot slot) = refl
 after_an_end_no_line_fits (line.Next index) = refl
@@ -170,7 +172,7 @@ full_world = record {
 pub the_full_document_fits : (fit_after version_1 [] full_lines ≡ true) × (last_section full_lines ≡ section.End)
 the_full_document_fits = (refl, refl)
 
-pub the_full_document_is_of_its_world : (world_of version_1 full_lines ≡ full_world) × (lines_of full_world ≡ full_lines)
+pub the_full_document_is_of_its_world : (world_of version_1 full_lines ≡ full_world) × (lines_of (record { world = full_world; systems = [] }) ≡ full_lines)
 the_full_document_is_of_its_world = (refl, refl)
 
 pub a_second_row_of_an_entity_is_refused : Refused within_aim (line.Row (id 0 0) (value.Ref (null p20_12) ∷ value.Int (pos 1) ∷ [])) last_row
@@ -213,7 +215,7 @@ small_world = record {
   pools = ((id 0 0, row (negsuc 1) (negsuc 0)) ∷ []) ∷ [];
 }
 
-pub the_text_of_a_small_world : text_of version_1 (lines_of small_world) ≡
+pub the_text_of_a_small_world : text_of version_1 (lines_of (record { world = small_world; systems = [] })) ≡
     codes "world 1\ncomponent a int entity\ntick 10\nlive 0\nfree 12\nnext 1\npool a\nrow 0:0 -2 null\nend\n"
 unfolding digits
 the_text_of_a_small_world = refl

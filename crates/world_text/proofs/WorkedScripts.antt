@@ -32,6 +32,7 @@ live = record { version = 0; live = true }
 abbrev pub of : List Decl → List Slot → Document
 of decls slots = record {
   world = record { profile = p20_12; decls = decls; groups = []; tick = 0; slots = slots; free = []; pools = replicate (length decls) [] };
+  systems = [];
 }
 
 -- ---- rows

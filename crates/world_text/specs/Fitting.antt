@@ -1,5 +1,5 @@
 -- Where a line is admissible: after which lines it may stand.
-use Rattle.std.specs.Prelude.{ℕ, ◌-◌, Bool, true, false, ◌&&◌, not, List, [], ◌∷◌, ◌++◌, length, slice_get, nat_lt, ◌==◌}
+use Rattle.std.specs.Prelude.{ℕ, ◌-◌, Bool, true, false, ◌&&◌, ◌||◌, not, is_some, List, [], ◌∷◌, ◌++◌, length, slice_get, nat_lt, ◌==◌}
 use Rattle.std.specs.List.{flat_map, list_any, list_all, zip}
 use Rattle.std.specs.Option.{option_map_or}
 use Rattle.std.specs.Str.{bytes_eq}
@@ -14,6 +14,8 @@ use Rattle.world_model.specs.Components.{kinds_of, has_name}
 use Rattle.world_model.specs.Groups.{group_limit, is_well_formed, may_coexist}
 use Rattle.world_model.specs.Slots.{is_live, is_free_at}
 use Rattle.world_model.specs.Worlds.{component_limit}
+use Rattle.row_lang.specs.BodyLines.{BodyLine, Do}
+use Rattle.row_lang.specs.Systems.{admits, is_command}
 use Rattle.world_text.specs.declared.format.Format.{Format}
 use Rattle.world_text.specs.declared.section.Section.{Section}
 use Rattle.world_text.specs.declared.section.Section.TheVariants as section
@@ -23,12 +25,15 @@ use Rattle.world_text.specs.LineKinds.{Line, NamedGroup}
 use Rattle.world_text.specs.LineKinds as line
 use Rattle.world_text.specs.Sections.{is_between, later}
 use Rattle.world_text.specs.Meaning.{decl_in, groups_in, group_of, slot_in, next_in, pools_in, settled}
+use Rattle.world_text.specs.SystemLines.{SystemsSoFar, systems_in, commands_so_far, system_limit, document_command_limit}
 
 -- the part of the document that a line belongs to
 abbrev pub section_of : Line → Section
 section_of line.Version = section.Version
 section_of (line.Component decl) = section.Components
 section_of (line.Group named) = section.Groups
+section_of (line.System name) = section.Systems
+section_of (line.Body names body) = section.Systems
 section_of (line.Tick tick) = section.Tick
 section_of (line.Slot slot) = section.Slots
 section_of (line.Next index) = section.FreeList
@@ -57,6 +62,32 @@ are_listed decls named = are_of_components decls named.own && are_of_components 
 -- whether a group is well-formed and may be added to these: they are fewer than the limit, and it may stand beside each
 abbrev pub may_join : List GroupDecl → GroupDecl → Bool
 may_join groups decl = is_well_formed decl && (nat_lt (length groups) group_limit && list_all (may_coexist decl) groups)
+
+-- whether a system stands unfinished
+abbrev pub is_unfinished : SystemsSoFar → Bool
+is_unfinished systems = is_some systems.unfinished
+
+-- whether one more system of this name may begin: none stands unfinished, they are fewer than the limit, and none of them has the name
+abbrev pub may_begin : SystemsSoFar → List ℕ → Bool
+may_begin systems name =
+    not (is_unfinished systems)
+    && (nat_lt (length systems.closed) system_limit && not (list_any (λ system. bytes_eq system.name name) systems.closed))
+
+-- whether these are the names of the components, by number
+abbrev pub are_names_of : List Decl → List (List ℕ) → Bool
+are_names_of [] [] = true
+are_names_of (decl ∷ decls) (name ∷ names) = has_name name decl && are_names_of decls names
+are_names_of _ _ = false
+
+-- whether a line of a system is no command statement too many in the document
+abbrev pub leaves_commands_few : SystemsSoFar → BodyLine → Bool
+leaves_commands_few systems (Do tokens) = not (is_command tokens) || nat_lt (commands_so_far systems) document_command_limit
+leaves_commands_few systems _ = true
+
+-- whether a line goes on the unfinished system: there is one, and it admits the line, which is no command statement too many
+abbrev pub goes_on_system : List Decl → SystemsSoFar → BodyLine → Bool
+goes_on_system decls systems body =
+    option_map_or (λ draft. admits decls draft body) systems.unfinished false && leaves_commands_few systems body
 
 -- whether an index is to go on the free list: its slot is there and free, and it isn't on the list
 abbrev pub is_unlisted : List Slot → List ℕ → ℕ → Bool
@@ -96,7 +127,13 @@ fits format before (line.Component decl) =
 fits format before (line.Group named) =
     is_between section.Version section.Groups (last_section before)
     && (are_listed (flat_map decl_in before) named && may_join (groups_in before) (group_of (flat_map decl_in before) named))
-fits format before (line.Tick tick) = is_between section.Version section.Groups (last_section before)
+fits format before (line.System name) =
+    is_between section.Version section.Systems (last_section before) && may_begin (systems_in before) name
+fits format before (line.Body names body) =
+    is_between section.Systems section.Systems (last_section before)
+    && (are_names_of (flat_map decl_in before) names && goes_on_system (flat_map decl_in before) (systems_in before) body)
+fits format before (line.Tick tick) =
+    is_between section.Version section.Systems (last_section before) && not (is_unfinished (systems_in before))
 fits format before (line.Slot slot) =
     is_between section.Tick section.Slots (last_section before) && nat_lt (length (flat_map slot_in before)) format.slot_limit
 fits format before (line.Next index) =

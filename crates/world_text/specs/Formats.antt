@@ -7,10 +7,6 @@ use Rattle.world_text.specs.declared.format.Format.{Format}
 abbrev pub tick_limit : ℕ
 tick_limit = 1000000000000
 
--- how many bytes a line has at most, its end not counted
-abbrev pub line_limit : ℕ
-line_limit = 4096
-
 -- version 1: identifiers of 20 and 12 bits
 abbrev pub version_1 : Format
 version_1 = record { version = 1; profile = p20_12; slot_limit = 1048575 }

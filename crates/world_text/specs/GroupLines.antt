@@ -3,9 +3,9 @@ use Rattle.std.specs.Prelude.{◌≡◌, ℕ, ◌<◌, ◌≤◌, List, ◌∷�
 use Rattle.world_model.specs.declared.component.Decl.{Decl}
 use Rattle.world_model.specs.declared.group.GroupDecl.{GroupDecl}
 use Rattle.world_text.specs.Documents.{named_of}
-use Rattle.world_text.specs.Formats.{line_limit}
+use Rattle.row_lang.specs.Spelling.{line_limit}
 use Rattle.world_text.specs.Lines.{lists_text}
-use Rattle.world_text.specs.NameLists.{AreKept, AreNamedOnce}
+use Rattle.row_lang.specs.NameLists.{AreKept, AreNamedOnce}
 
 -- a group whose components are named in the order in which it lists them: behind `own` those that it owns, behind `get` those that it
 -- observes, behind `not` those that it excludes; either of the last two parts is left out where it lists nothing

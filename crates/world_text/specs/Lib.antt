@@ -4,11 +4,12 @@ pub mod LineKinds
 pub mod Sections
 pub mod Lines
 pub mod Meaning
+pub mod SystemLines
 pub mod Fitting
 pub mod Documents
 pub mod Reading
 pub mod Drafts
-pub mod NameLists
+pub mod Headers
 pub mod GroupLines
 pub mod Replies
 pub mod Scripts

@@ -12,6 +12,10 @@ use Rattle.world_model.specs.declared.component.Kind.TheVariants as kind
 use Rattle.world_model.specs.Components.{IsDecl, kinds_of, is_target}
 use Rattle.world_model.specs.Integers.{IsI64}
 use Rattle.world_model.specs.Names.{is_name}
+use Rattle.row_lang.specs.BodyLines.{BodyLine}
+use Rattle.row_lang.specs.NameLists.{spaced_names, names_behind}
+use Rattle.row_lang.specs.Naming.{IsNamedDecl}
+use Rattle.row_lang.specs.Spelling.{IsBodyLine, first_line_text, body_line_text}
 use Rattle.world_text.specs.declared.format.Format.{Format}
 use Rattle.world_text.specs.Formats.{tick_limit}
 use Rattle.world_text.specs.FieldValues.{FieldValue}
@@ -39,15 +43,6 @@ values_text profile values = flat_map (λ v. 32 ∷ value_text profile v) values
 abbrev pub decl_text : Decl → List ℕ
 decl_text decl = decl.name ++ flat_map kind_text (kinds_of decl)
 
--- names, each behind a space
-abbrev pub spaced_names : List (List ℕ) → List ℕ
-spaced_names names = flat_map (λ name. 32 ∷ name) names
-
--- names behind a word: nothing where there are none
-abbrev pub names_behind : List ℕ → List (List ℕ) → List ℕ
-names_behind word [] = []
-names_behind word (name ∷ names) = word ++ spaced_names (name ∷ names)
-
 -- what a group line says: the names that it owns, and behind their words those that it observes and those that it excludes
 abbrev pub lists_text : NamedGroup → List ℕ
 lists_text named =
@@ -58,6 +53,8 @@ abbrev pub line_text : Format → Line → List ℕ
 line_text format line.Version = codes "world " ++ decimal format.version
 line_text format (line.Component decl) = codes "component " ++ decl_text decl
 line_text format (line.Group named) = codes "group" ++ lists_text named
+line_text format (line.System name) = first_line_text name
+line_text format (line.Body names body) = body_line_text names body
 line_text format (line.Tick tick) = codes "tick " ++ decimal tick
 line_text format (line.Slot slot) = (if slot.live then codes "live " else codes "free ") ++ decimal slot.version
 line_text format (line.Next index) = codes "next " ++ decimal index
@@ -71,14 +68,10 @@ text_of format lines = flat_map (λ l. line_text format l ++ 10 ∷ []) lines
 
 -- ---- which lines there are
 
--- The limit of 4,096 bytes for a line refuses none of these that fits: the longest in version 1 is a group line of 281 bytes, with 8 names
--- of 32 bytes. Of the lines of a script it refuses long group lines alone, which may name every component in each list (`GroupLines.antt`);
--- of the others the longest is an `all_of` or `any_of` line of 547 bytes, with 16 names of 32 bytes.
-
--- a component with at most 4 fields, and a name of the form of a name
-pub record IsNamedDecl (decl : Decl) : Type 0 where
-  pub name : is_name decl.name ≡ true
-  pub fields : IsDecl decl
+-- The limit of 4,096 bytes for a line refuses long `do` lines of systems: it is a part of `IsBodyLine`. Of the other lines here it refuses
+-- none that fits: the longest in version 1 is the line of a list of a system, of 534 bytes, with 16 names of 32 bytes. Of the lines of a
+-- script it refuses long group lines alone, which may name every component in each list (`GroupLines.antt`); of the others the longest is an
+-- `all_of` or `any_of` line of 547 bytes, with 16 names of 32 bytes.
 
 -- a number of 64 bits, or null, or an identifier both of whose parts are below the limits
 abbrev pub IsValue : Profile → FieldValue → Type 0
@@ -92,6 +85,11 @@ pub record IsNamedGroup (named : NamedGroup) : Type 0 where
   pub without : AllByRecursion (λ name. is_name name ≡ true) named.without
   pub some : 0 < length named.own
 
+-- a line of a system, which calls the components by names of the form of names
+pub record IsSystemLine (names : List (List ℕ)) (body : BodyLine) : Type 0 where
+  pub named : AllByRecursion (λ name. is_name name ≡ true) names
+  pub is : IsBodyLine names body
+
 -- the row of an identifier of the profile, with at most 4 values
 pub record IsRowLine (format : Format) (entity : Entity) (values : List FieldValue) : Type 0 where
   pub of_profile : IsOfProfile format.profile entity
@@ -103,6 +101,8 @@ abbrev pub IsLine : Format → Line → Type 0
 IsLine format line.Version = Unit {0}
 IsLine format (line.Component decl) = IsNamedDecl decl
 IsLine format (line.Group named) = IsNamedGroup named
+IsLine format (line.System name) = is_name name ≡ true
+IsLine format (line.Body names body) = IsSystemLine names body
 IsLine format (line.Tick tick) = tick ≤ tick_limit
 IsLine format (line.Slot slot) = slot.version < format.profile.version_limit
 IsLine format (line.Next index) = index < format.slot_limit

@@ -15,7 +15,7 @@ use Rattle.world_text.specs.FieldValues.{FieldValue}
 use Rattle.world_text.specs.FieldValues as value
 use Rattle.world_text.specs.LineKinds.{Line, NamedGroup}
 use Rattle.world_text.specs.LineKinds as line
-use Rattle.world_text.specs.NameLists.{name_at}
+use Rattle.row_lang.specs.NameLists.{name_at}
 
 -- the component that a line declares
 abbrev pub decl_in : Line → List Decl

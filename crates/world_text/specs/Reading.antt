@@ -14,10 +14,6 @@ use Rattle.world_text.specs.Lines.{IsValue, kind_text, value_text, values_text}
 use Rattle.world_text.specs.Meaning.{field_of_value, row_of}
 use Rattle.world_text.specs.Fitting.{is_of_kind, are_of_kinds}
 
--- what stands behind a word at the front, or none where the word isn't there
-abbrev pub IsAfter : List ℕ → List ℕ → Option (Bor (List ℕ)) → Type 0
-IsAfter text word result = MatchOption result ((rest : List ℕ) → text ≢ word ++ rest) (λ rest. text ≡ word ++ rest.now)
-
 -- nothing, or a space (32) first
 abbrev pub BeginsWithSpace : List ℕ → Type 0
 BeginsWithSpace [] = Unit {0}

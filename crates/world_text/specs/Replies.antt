@@ -16,7 +16,7 @@ use Rattle.world_model.specs.declared.refusal.Refusal.{Refusal}
 use Rattle.world_model.specs.declared.refusal.Refusal.TheVariants as refusal
 use Rattle.world_text.specs.Documents.{values_in}
 use Rattle.world_text.specs.Lines.{values_text}
-use Rattle.world_text.specs.NameLists.{name_at}
+use Rattle.row_lang.specs.NameLists.{name_at}
 use Rattle.world_text.specs.Scripts.{event_word}
 
 -- a refusal; want of memory and an undeclared component never come as a reply of a script

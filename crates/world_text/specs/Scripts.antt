@@ -25,13 +25,10 @@ use Rattle.world_text.specs.Documents.{IsFrontOf, IsBadFrontOf, value_in, values
 use Rattle.world_text.specs.Formats.{version_1}
 use Rattle.world_text.specs.GroupLines.{group_text, IsGroupLine, IsGroupWrittenAs}
 use Rattle.world_text.specs.Lines.{value_text, values_text}
-use Rattle.world_text.specs.NameLists.{name_at, names_text, part_text, IsCalled, AreKept, AreNamedOnce}
+use Rattle.row_lang.specs.FieldNames.{kind_at, field_text}
+use Rattle.row_lang.specs.NameLists.{name_at, names_text, part_text, IsCalled, AreKept, AreNamedOnce}
 
 -- ---- spelling
-
--- the kind of a field of a component
-abbrev pub kind_at : List Decl → ℕ → ℕ → Option Kind
-kind_at decls pool field = option_and_then (λ decl. slice_get (kinds_of decl) field) (slice_get decls pool)
 
 -- the values of a row of a component, each behind a space
 abbrev pub row_text : Profile → List Decl → ℕ → Row → List ℕ
@@ -40,10 +37,6 @@ row_text profile decls pool row = values_text profile (option_map_or (λ decl. v
 -- an identifier, and behind a space (32) the name of a component
 abbrev pub entry_text : Profile → List Decl → Entity → ℕ → List ℕ
 entry_text profile decls entity pool = entity_text profile entity ++ 32 ∷ name_at decls pool
-
--- a field of a component: its name, a dot (46) and the field's number
-abbrev pub field_text : List Decl → ℕ → ℕ → List ℕ
-field_text decls pool field = name_at decls pool ++ 46 ∷ decimal field
 
 -- a value of a field of a component
 abbrev pub field_value_text : Profile → List Decl → ℕ → ℕ → ℤ → List ℕ

@@ -1,7 +1,7 @@
 -- The parts of a document and their order.
 use Rattle.std.specs.Prelude.{ℕ, Bool, ◌&&◌, nat_lt, nat_le, if◌then◌else◌}
 use Rattle.world_text.specs.declared.section.Section.{Section}
-use Rattle.world_text.specs.declared.section.Section.TheVariants.{Start, Version, Components, Groups, Tick, Slots, FreeList, Pools, End}
+use Rattle.world_text.specs.declared.section.Section.TheVariants.{Start, Version, Components, Groups, Systems, Tick, Slots, FreeList, Pools, End}
 
 -- the place of a part in the order
 abbrev pub order : Section → ℕ
@@ -9,11 +9,12 @@ order Start = 0
 order Version = 1
 order Components = 2
 order Groups = 3
-order Tick = 4
-order Slots = 5
-order FreeList = 6
-order Pools = 7
-order End = 8
+order Systems = 4
+order Tick = 5
+order Slots = 6
+order FreeList = 7
+order Pools = 8
+order End = 9
 
 -- whether a part is one of those from first to last
 abbrev pub is_between : Section → Section → Section → Bool

@@ -1,18 +1,20 @@
 //! One line more in a draft: whether it is admissible after the lines before it, and what it adds.
 
-ghost use Rattle.std.specs.Prelude.{◌≡◌, ◌&&◌, true, slice_index_or, OnOk, IsErrOf};
+ghost use Rattle.std.specs.Prelude.{◌≡◌, ◌&&◌, true, not, cond, slice_index_or, OnOk, IsErrOf, OnErr};
 ghost use Rattle.std.specs.List.{list_all, list_any};
 ghost use Rattle.world_model.specs.Components.{has_name};
+ghost use Rattle.row_lang.specs.Naming.{IsNamedDecl};
 ghost use Rattle.world_model.specs.Groups.{are_declared, group_pools, may_coexist as coexist};
+ghost use Rattle.world_text.specs.Headers.{KeepsOthers, header_in};
 ghost use Rattle.world_text.specs.Drafts.{Takes, Refuses, TakesGroup, RefusesGroup};
 ghost use Rattle.world_text.specs.Fitting.{may_join as joins};
 ghost use Rattle.world_text.specs.LineKinds.{Line};
 
-use super::LineFault;
 use super::draft::Draft;
 use super::format::COMPONENT_LIMIT;
 use super::section::Section;
 use group_rules::{GROUP_LIMIT, Relation, check, relate};
+use row_lang::LineFault;
 use world_model::{Decl, GroupDecl, Slot};
 
 fn has_decl(decls: &[Decl], name: &[u8]) -> bool
@@ -35,8 +37,11 @@ pub fn add_version(draft: &mut Draft) -> Result<(), LineFault>
 
 /// Adds a component, where there is room for one more and none has its name.
 pub fn add_component(draft: &mut Draft, decl: Decl) -> Result<(), LineFault>
+    requires { IsNamedDecl decl }
     ensures ok { OnOk result (Takes draft.old (Line.Component decl) draft.new) }
     ensures bad { IsErrOf result LineFault.Bad → Refuses draft.old (Line.Component decl) }
+    ensures others { KeepsOthers draft.old draft.new }
+    ensures err { OnErr result (header_in draft.new ≡ header_in draft.old) }
 {
     if !draft
         .section
@@ -60,6 +65,8 @@ pub fn add_component(draft: &mut Draft, decl: Decl) -> Result<(), LineFault>
 pub fn add_group(draft: &mut Draft, decl: GroupDecl) -> Result<(), LineFault>
     ensures ok { OnOk result (TakesGroup draft.old decl draft.new) }
     ensures bad { IsErrOf result LineFault.Bad → RefusesGroup draft.old decl }
+    ensures others { KeepsOthers draft.old draft.new }
+    ensures err { OnErr result (header_in draft.new ≡ header_in draft.old) }
 {
     if !draft.section.is_between(Section::Version, Section::Groups) {
         return Err(LineFault::Bad);
@@ -100,12 +107,22 @@ pub fn add_tick(draft: &mut Draft, tick: u64) -> Result<(), LineFault>
     ensures ok { OnOk result (Takes draft.old (Line.Tick tick) draft.new) }
     ensures bad { IsErrOf result LineFault.Bad → Refuses draft.old (Line.Tick tick) }
 {
-    if !draft.section.is_between(Section::Version, Section::Groups) {
+    if !draft.section.is_between(Section::Version, Section::Systems) {
+        return Err(LineFault::Bad);
+    }
+    if draft.unfinished.is_some() {
         return Err(LineFault::Bad);
     }
     draft.tick = tick;
     draft.section = Section::Tick;
     Ok(())
+}
+
+// One for a free slot, and none for one that is live.
+fn count_of_free(slot: Slot) -> usize
+    ensures { result ≡ cond (not slot.live) 1 0 }
+{
+    if slot.live { 0 } else { 1 }
 }
 
 /// Adds a slot, where there is room for one more.
@@ -121,9 +138,7 @@ pub fn add_slot(draft: &mut Draft, slot: Slot) -> Result<(), LineFault>
     }
     draft.slots.push(slot)?;
     draft.settled.push(slot.live)?;
-    if !slot.live {
-        draft.unsettled += 1;
-    }
+    draft.unsettled += count_of_free(slot);
     draft.section = Section::Slots;
     Ok(())
 }

@@ -6,10 +6,11 @@ ghost use Rattle.world_text.specs.declared.script.ScriptLine.{ScriptLine};
 ghost use Rattle.world_text.specs.declared.verbs.Verb.{Verb};
 ghost use Rattle.world_model.specs.Worlds.{component_limit};
 ghost use Rattle.world_text.specs.Formats.{version_1};
-ghost use Rattle.world_text.specs.Reading.{IsAfter};
+ghost use Rattle.row_lang.specs.Reading.{IsAfter};
 ghost use Rattle.world_text.specs.Scripts.{IsLineFirst, first_line, last_line};
 ghost use Rattle.world_text.specs.ScriptReading.{IsLineBehind};
 
+use super::ScriptLine;
 use super::first_words::verb_of;
 use super::group_lines::take_group;
 use super::line_parts::{take_last_entity, take_last_entry, take_last_number, take_last_pool};
@@ -20,8 +21,8 @@ use super::verbs::{
     EntityVerb, EntryVerb, PlainVerb, Verb, entity_command, entry_command, plain_command,
 };
 use super::watch_lines::{take_unwatch, take_watch};
-use super::words::{after, split_name};
-use super::{LineFault, ScriptLine};
+use row_lang::LineFault;
+use row_lang::words::{after, split_name};
 use std::alloc::Global;
 use world_model::{Command, Decl};
 

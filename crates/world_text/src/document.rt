@@ -1,3 +1,4 @@
+use super::SystemList;
 use world_model::World;
 
 /// What a document stands for.
@@ -5,4 +6,6 @@ use world_model::World;
 pub struct Document {
     /// The world that it describes.
     pub world: World,
+    /// The systems, by number.
+    pub systems: SystemList,
 }

@@ -1,9 +1,11 @@
-ghost use Rattle.std.specs.Prelude.{◌≡◌, ◌≤◌, true, length, not, count_by};
-ghost use Rattle.world_model.specs.Worlds.{component_limit};
-ghost use Rattle.world_text.specs.Documents.{are_named_apart};
+ghost use Rattle.std.specs.Prelude.{◌≡◌, not, count_by};
+ghost use Rattle.std.proofs.Props.{props};
+ghost use Rattle.row_lang.specs.Naming.{AreNamedDecls};
+ghost use Rattle.world_text.specs.SystemLines.{IsCommandCount};
 
 use super::format::Format;
 use super::section::Section;
+use row_lang::{SystemDef, SystemDraft};
 use world_model::{Decl, GroupDecl, Rows, Slot};
 
 /// What the lines read so far stand for.
@@ -17,6 +19,12 @@ pub struct Draft {
     pub decls: Vec<Decl>,
     /// The groups, by number.
     pub groups: Vec<GroupDecl>,
+    /// The systems whose last line stands, by number.
+    pub systems: Vec<SystemDef>,
+    /// The system whose last line doesn't, where there is one.
+    pub unfinished: Option<SystemDraft>,
+    /// How many command statements the systems have, all together.
+    pub commands: u32,
     /// The tick number, and 0 before its line.
     pub tick: u64,
     /// The slots, by index.
@@ -29,7 +37,7 @@ pub struct Draft {
     pub unsettled: usize,
     /// The rows of the pools, the last of which may grow.
     pub pools: Vec<Rows>,
-    ghost few: { length decls.items ≤ component_limit },
-    ghost apart: { are_named_apart decls.items ≡ true },
+    ghost named: { AreNamedDecls decls.items } by { Prim.hlevel props },
+    ghost commanded: { IsCommandCount systems.items unfinished commands },
     ghost counted: { unsettled ≡ count_by not settled.items },
 }

@@ -7,10 +7,10 @@ ghost use Rattle.world_text.specs.Fitting.{is_above as above};
 ghost use Rattle.world_text.specs.Drafts.{Takes, Refuses, TakesRow, RefusesRow};
 ghost use Rattle.world_text.specs.LineKinds.{Line};
 
-use super::LineFault;
 use super::draft::Draft;
 use super::section::Section;
 use entity_id::{Entity, Name};
+use row_lang::LineFault;
 use std::alloc::Global;
 use world_model::{Decl, Row, Rows, is_live};
 

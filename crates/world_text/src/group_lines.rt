@@ -6,10 +6,10 @@ ghost use Rattle.world_model.specs.Worlds.{component_limit};
 ghost use Rattle.world_text.specs.GroupLines.{IsGroupFirst};
 ghost use Rattle.world_text.specs.ScriptReading.{IsGroupNext};
 
-use super::LineFault;
 use super::format::LINE_LIMIT;
-use super::name_lists::{kept, take_part, take_some_names};
-use super::words::after;
+use row_lang::LineFault;
+use row_lang::name_lists::{kept, take_part, take_some_names};
+use row_lang::words::after;
 use std::alloc::Global;
 use world_model::{Decl, GroupDecl};
 

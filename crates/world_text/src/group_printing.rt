@@ -3,7 +3,7 @@
 ghost use Rattle.std.specs.Prelude.{◌≡◌, ◌++◌, ◌∷◌, [], length, take, map, OnOk};
 ghost use Rattle.world_text.specs.Formats.{version_1};
 ghost use Rattle.world_text.specs.Lines.{line_text, text_of};
-ghost use Rattle.world_text.specs.NameLists.{name_at, names_text, part_text};
+ghost use Rattle.row_lang.specs.NameLists.{name_at, names_text, part_text};
 ghost use Rattle.world_text.specs.Documents.{group_line};
 
 use entity_id::OutOfMemory;

@@ -19,11 +19,12 @@ mod first_words;
 mod format;
 mod group_lines;
 mod group_printing;
+mod header;
+mod header_printing;
 mod laws;
 mod line_parts;
 mod list_lines;
 mod name_lines;
-mod name_lists;
 mod number_lines;
 mod printing;
 mod reading;
@@ -37,6 +38,9 @@ mod scripts;
 mod section;
 mod single;
 mod sort_lines;
+mod system_adding;
+mod system_lines;
+mod system_list;
 mod verbs;
 mod watch_lines;
 mod watch_replies;
@@ -44,8 +48,10 @@ mod words;
 
 pub use command_lines::{after_first_line, after_last_line, take_script_line};
 pub use document::Document;
-pub use fault::{LineFault, TextRefused};
+pub use fault::TextRefused;
 pub use format::{Format, VERSION_1};
+pub use header::{Header, HeaderDraft};
+pub use header_printing::header_lines;
 pub use laws::{
     document_or_bad_line, documents_are_lawful, front_or_bad_line, one_bad_line, one_document,
     one_front, printed_text, printed_text_is_read_back,
@@ -53,6 +59,7 @@ pub use laws::{
 pub use printing::{push_world, write_world};
 pub use reading::{Front, read_front, read_world};
 pub use replies::push_reply;
+pub use row_lang::LineFault;
 pub use script::{Script, ScriptLine};
 pub use script_laws::{
     names_tell_components, one_command, one_script, script_or_bad_line,
@@ -60,4 +67,5 @@ pub use script_laws::{
 };
 pub use scripts::read_script;
 pub use single::read_command;
+pub use system_list::SystemList;
 pub use watch_replies::{push_heard, push_unwatched, push_watched};

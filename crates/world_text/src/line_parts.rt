@@ -4,12 +4,14 @@ ghost use Rattle.std.specs.Prelude.{◌≡◌, ◌<◌, ◌∷◌, ◌≤◌, �
 ghost use Rattle.entity_id.specs.declared.entity.Entity.{Entity};
 ghost use Rattle.world_model.specs.Worlds.{component_limit};
 ghost use Rattle.world_text.specs.Formats.{version_1};
-ghost use Rattle.world_text.specs.ScriptReading.{IsEntityNext, IsEntryNext, IsNumberNext, IsPoolNext};
+ghost use Rattle.row_lang.specs.Reading.{IsPoolNext};
+ghost use Rattle.world_text.specs.ScriptReading.{IsEntityNext, IsEntryNext, IsNumberNext};
 
 use super::format::VERSION_1;
-use super::words::{after, split_name};
 use entity_id::{Entity, take_entity, take_nat};
-use world_model::{Decl, read_name};
+use row_lang::name_lists::take_next_pool;
+use row_lang::words::after;
+use world_model::Decl;
 
 // The greatest number of a watch or of a group in a line.
 const NUMBER_LIMIT: u64 = 4_294_967_295;
@@ -34,19 +36,6 @@ pub fn take_last_entity(text: &[u8]) -> Option<(Entity, &[u8])>
     let (entity, rest) = take_next_entity(text)?;
     let rest = after(rest, b"\n")?;
     Some((entity, rest))
-}
-
-/// A component by its name, and what stands behind that.
-pub fn take_next_pool<'a>(decls: &[Decl], text: &'a [u8]) -> Option<(u32, &'a [u8])>
-    requires { length decls.now ≤ component_limit }
-    ensures some { IfSome result (λ x. IsPoolNext decls.now text.now x.0 x.1.now) }
-    ensures none { IfNone result ((pool : ℕ) (rest : List ℕ) →
-        IsPoolNext decls.now text.now pool rest → ⊥) }
-{
-    let text = after(text, b" ")?;
-    let (name, rest) = split_name(text);
-    let pool = read_name(name, decls)?;
-    Some((pool, rest))
 }
 
 /// A component up to the end of its line, and what stands behind that.

@@ -7,11 +7,12 @@ ghost use Rattle.world_model.specs.Worlds.{component_limit};
 ghost use Rattle.world_text.specs.Formats.{version_1};
 ghost use Rattle.world_text.specs.ScriptReading.{AreNamesLast, IsLineBehind};
 
+use super::ScriptLine;
 use super::line_parts::take_next_entity;
-use super::name_lists::{kept, take_part, take_some_names};
 use super::verbs::{NamesVerb, Verb, names_command};
-use super::words::after;
-use super::{LineFault, ScriptLine};
+use row_lang::LineFault;
+use row_lang::name_lists::{kept, take_part, take_some_names};
+use row_lang::words::after;
 use std::alloc::Global;
 use world_model::{Command, Decl};
 

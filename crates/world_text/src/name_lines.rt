@@ -1,21 +1,24 @@
 //! Lines that hold a name, read from the front of the bytes behind their word.
 
-ghost use Rattle.std.specs.Prelude.{◌≡◌, ◌≢◌, ◌≤◌, ℕ, List, ◌++◌, length, replicate, codes, IfOk, IfSome, IfNone, IsErrOf, MatchOption};
+ghost use Rattle.std.specs.Prelude.{◌≡◌, ◌≢◌, ◌≤◌, ℕ, List, ◌++◌, length, replicate, codes, IfOk, IfSome, IfNone, IsErrOf, MatchOption, OnErr};
 ghost use Rattle.std.specs.List.{flat_map};
 ghost use Rattle.world_model.specs.declared.component.Kind.{Kind};
-ghost use Rattle.world_text.specs.Lines.{IsNamedDecl, kind_text, decl_text};
+ghost use Rattle.row_lang.specs.Naming.{IsNamedDecl};
+ghost use Rattle.world_text.specs.Lines.{kind_text, decl_text};
 ghost use Rattle.world_text.specs.Reading.{AreKinds};
 ghost use Rattle.world_model.specs.declared.component.Decl.{Decl};
 ghost use Rattle.world_text.specs.Formats.{IsFormat};
-ghost use Rattle.world_text.specs.Drafts.{TakesLine, RefusesLine};
+ghost use Rattle.world_text.specs.Headers.{KeepsOthers, header_in};
+ghost use Rattle.world_text.specs.Drafts.{TakesLine, RefusesOthers};
 
-use super::LineFault;
 use super::adding::{add_component, add_group};
 use super::draft::Draft;
 use super::filling::add_pool;
 use super::group_lines::take_group;
-use super::words::{after, split_word};
+use super::words::split_word;
 use entity_id::{Name, split_once};
+use row_lang::LineFault;
+use row_lang::words::after;
 use std::alloc::Global;
 use world_model::{Decl, Kind, is_name};
 
@@ -29,7 +32,9 @@ pub fn read_component<'a>(
     ensures ok { IfOk result (λ after.
         TakesLine draft.old (codes "component " ++ text.now) after.now draft.new) }
     ensures bad { IsErrOf result LineFault.Bad →
-        RefusesLine draft.old (codes "component " ++ text.now) }
+        RefusesOthers draft.old (codes "component " ++ text.now) }
+    ensures others { KeepsOthers draft.old draft.new }
+    ensures err { OnErr result (header_in draft.new ≡ header_in draft.old) }
 {
     let Some((text, after)) = split_once(text, b'\n') else {
         return Err(LineFault::Bad);
@@ -47,7 +52,9 @@ pub fn read_group<'a>(
 ) -> Result<&'a [u8], LineFault>
     ensures ok { IfOk result (λ after.
         TakesLine draft.old (codes "group" ++ text.now) after.now draft.new) }
-    ensures bad { IsErrOf result LineFault.Bad → RefusesLine draft.old (codes "group" ++ text.now) }
+    ensures bad { IsErrOf result LineFault.Bad → RefusesOthers draft.old (codes "group" ++ text.now) }
+    ensures others { KeepsOthers draft.old draft.new }
+    ensures err { OnErr result (header_in draft.new ≡ header_in draft.old) }
 {
     let (decl, after) = take_group(alloc, &draft.decls, text)?;
     add_group(draft, decl)?;
@@ -63,7 +70,7 @@ pub fn read_pool<'a>(
     requires { IsFormat draft.old.format }
     ensures ok { IfOk result (λ after.
         TakesLine draft.old (codes "pool " ++ text.now) after.now draft.new) }
-    ensures bad { IsErrOf result LineFault.Bad → RefusesLine draft.old (codes "pool " ++ text.now) }
+    ensures bad { IsErrOf result LineFault.Bad → RefusesOthers draft.old (codes "pool " ++ text.now) }
 {
     let Some((name, after)) = split_once(text, b'\n') else {
         return Err(LineFault::Bad);

@@ -3,14 +3,14 @@
 ghost use Rattle.std.specs.Prelude.{◌++◌, ℕ, List, codes, if◌then◌else◌, IfOk, IfSome, IfNone, IsErrOf};
 ghost use Rattle.world_text.specs.Formats.{IsFormat};
 ghost use Rattle.world_text.specs.Reading.{IsNumberLine};
-ghost use Rattle.world_text.specs.Drafts.{TakesLine, RefusesLine};
+ghost use Rattle.world_text.specs.Drafts.{TakesLine, RefusesOthers};
 
-use super::LineFault;
 use super::adding::{add_next, add_slot, add_tick, add_version};
 use super::draft::Draft;
 use super::format::TICK_LIMIT;
-use super::words::after;
 use entity_id::take_nat;
+use row_lang::LineFault;
+use row_lang::words::after;
 use world_model::Slot;
 
 /// Reads the line `world V`.
@@ -19,7 +19,7 @@ pub fn read_version<'a>(draft: &mut Draft, text: &'a [u8]) -> Result<&'a [u8], L
     ensures ok { IfOk result (λ after.
         TakesLine draft.old (codes "world " ++ text.now) after.now draft.new) }
     ensures bad { IsErrOf result LineFault.Bad →
-        RefusesLine draft.old (codes "world " ++ text.now) }
+        RefusesOthers draft.old (codes "world " ++ text.now) }
 {
     let Some((version, after)) = number_line(text, u64::MAX) else {
         return Err(LineFault::Bad);
@@ -35,7 +35,7 @@ pub fn read_version<'a>(draft: &mut Draft, text: &'a [u8]) -> Result<&'a [u8], L
 pub fn read_tick<'a>(draft: &mut Draft, text: &'a [u8]) -> Result<&'a [u8], LineFault>
     ensures ok { IfOk result (λ after.
         TakesLine draft.old (codes "tick " ++ text.now) after.now draft.new) }
-    ensures bad { IsErrOf result LineFault.Bad → RefusesLine draft.old (codes "tick " ++ text.now) }
+    ensures bad { IsErrOf result LineFault.Bad → RefusesOthers draft.old (codes "tick " ++ text.now) }
 {
     let Some((tick, after)) = number_line(text, TICK_LIMIT) else {
         return Err(LineFault::Bad);
@@ -51,7 +51,7 @@ pub fn read_slot<'a>(draft: &mut Draft, text: &'a [u8], live: bool) -> Result<&'
         TakesLine draft.old ((if live then codes "live " else codes "free ") ++ text.now)
         after.now draft.new) }
     ensures bad { IsErrOf result LineFault.Bad →
-        RefusesLine draft.old ((if live then codes "live " else codes "free ") ++ text.now) }
+        RefusesOthers draft.old ((if live then codes "live " else codes "free ") ++ text.now) }
 {
     let Some((version, after)) = number_line(text, u64::from(draft.format.profile.version_limit))
     else {
@@ -70,7 +70,7 @@ pub fn read_next<'a>(draft: &mut Draft, text: &'a [u8]) -> Result<&'a [u8], Line
     requires { IsFormat draft.old.format }
     ensures ok { IfOk result (λ after.
         TakesLine draft.old (codes "next " ++ text.now) after.now draft.new) }
-    ensures bad { IsErrOf result LineFault.Bad → RefusesLine draft.old (codes "next " ++ text.now) }
+    ensures bad { IsErrOf result LineFault.Bad → RefusesOthers draft.old (codes "next " ++ text.now) }
 {
     let Some((index, after)) = number_line(text, u64::from(draft.format.slot_limit)) else {
         return Err(LineFault::Bad);

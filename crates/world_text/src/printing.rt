@@ -3,7 +3,7 @@ ghost use Rattle.std.specs.Fmt.{decimal};
 ghost use Rattle.std.specs.List.{flat_map, zip};
 ghost use Rattle.world_text.specs.Formats.{version_1};
 ghost use Rattle.world_text.specs.Lines.{line_text, kind_text, text_of};
-ghost use Rattle.world_text.specs.Documents.{IsLawfulDocument, text, row_line, pool_lines};
+ghost use Rattle.world_text.specs.Documents.{IsLawfulDocument, text, header_of, system_lines, row_line, pool_lines};
 ghost use Rattle.world_text.specs.LineKinds.{Line};
 
 use super::Document;
@@ -12,6 +12,7 @@ use super::group_printing::push_groups;
 use super::row_printing::write_row;
 use entity_id::{Entity, OutOfMemory};
 use itoa::write_digits;
+use row_lang::{SystemDef, push_system};
 use std::alloc::Global;
 use world_model::{Decl, Kind, Row, Rows, Slot};
 
@@ -53,13 +54,36 @@ fn push_lines(out: &mut Vec<u8>, document: &Document) -> Result<(), OutOfMemory>
 {
     let world = &document.world;
     push_number(out, b"world ", VERSION_1.version)?;
-    push_decls(out, world.decls.as_slice())?;
-    push_groups(out, world.decls.as_slice(), world.groups.as_slice())?;
+    push_header(out, document)?;
     push_number(out, b"tick ", world.tick)?;
     push_slots(out, world.slots.as_slice())?;
     push_nexts(out, world.free.as_slice())?;
     push_pools(out, world.decls.as_slice(), world.pools.as_slice())?;
     out.extend_from_slice(b"end\n")?;
+    Ok(())
+}
+
+// The header lines.
+pub(super) fn push_header(out: &mut Vec<u8>, document: &Document) -> Result<(), OutOfMemory>
+    ensures ok { OnOk result (out.new.items ≡
+        out.old.items ++ text_of version_1 (header_of document.now)) }
+    ensures front { take (length out.old.items) out.new.items ≡ out.old.items }
+{
+    let decls = document.world.decls.as_slice();
+    push_decls(out, decls)?;
+    push_groups(out, decls, document.world.groups.as_slice())?;
+    push_systems(out, decls, document.systems.as_slice())
+}
+
+// The lines of systems.
+fn push_systems(out: &mut Vec<u8>, decls: &[Decl], systems: &[SystemDef]) -> Result<(), OutOfMemory>
+    ensures ok { OnOk result (out.new.items ≡
+        out.old.items ++ text_of version_1 (flat_map (system_lines decls.now) systems.now)) }
+    ensures front { take (length out.old.items) out.new.items ≡ out.old.items }
+{
+    for system in systems {
+        push_system(out, system, decls)?;
+    }
     Ok(())
 }
 

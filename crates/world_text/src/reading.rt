@@ -2,7 +2,7 @@ ghost use Rattle.std.specs.Prelude.{◌≡◌, ◌≤◌, ◌++◌, [], ℕ, Lis
 ghost use Rattle.world_text.specs.Formats.{IsFormat};
 ghost use Rattle.world_text.specs.LineKinds.{Line};
 ghost use Rattle.world_text.specs.Documents.{IsDocument, IsFront, IsLawfulDocument};
-ghost use Rattle.world_text.specs.Drafts.{Stands, Refuses, TakesLine, RefusesLine, world_in};
+ghost use Rattle.world_text.specs.Drafts.{Stands, Refuses, TakesLine, RefusesLine, RefusesOthers, document_in};
 ghost use Rattle.world_text.specs.Refusals.{IsCause, IsFrontCause};
 
 use super::adding::add_end;
@@ -12,12 +12,15 @@ use super::name_lines::{read_component, read_group, read_pool};
 use super::number_lines::{read_next, read_slot, read_tick, read_version};
 use super::row_lines::read_row;
 use super::section::Section;
-use super::words::after;
-use super::{Document, LineFault, TextRefused};
+use super::system_lines::{has_unfinished, read_body, read_system};
+use super::{Document, SystemList, TextRefused};
+use row_lang::LineFault;
+use row_lang::words::after;
 use std::alloc::Global;
 use world_model::{DeclList, FreeList, GroupList, PoolList, SlotList, World};
 
-fn empty_draft(alloc: Global, format: Format) -> Draft
+// A draft of no lines.
+pub(super) fn empty_draft(alloc: Global, format: Format) -> Draft
     ensures format { result.format ≡ format }
     ensures stands { Stands result [] }
 {
@@ -26,6 +29,9 @@ fn empty_draft(alloc: Global, format: Format) -> Draft
         section: Section::Start,
         decls: Vec::new(alloc),
         groups: Vec::new(alloc),
+        systems: Vec::new(alloc),
+        unfinished: None,
+        commands: 0,
         tick: 0,
         slots: Vec::new(alloc),
         free: Vec::new(alloc),
@@ -35,11 +41,23 @@ fn empty_draft(alloc: Global, format: Format) -> Draft
     }
 }
 
-// Reads the line at the front, and gives what stands behind it. The most frequent lines come first.
+// Reads the line at the front, and gives what stands behind it.
 fn read_line<'a>(alloc: Global, draft: &mut Draft, bytes: &'a [u8]) -> Result<&'a [u8], LineFault>
     requires { IsFormat draft.old.format }
     ensures ok { IfOk result (λ after. TakesLine draft.old bytes.now after.now draft.new) }
     ensures bad { IsErrOf result LineFault.Bad → RefusesLine draft.old bytes.now }
+{
+    if has_unfinished(draft) {
+        return read_body(draft, bytes);
+    }
+    read_other(alloc, draft, bytes)
+}
+
+// The same for a line that isn't one of a system. The most frequent lines come first.
+fn read_other<'a>(alloc: Global, draft: &mut Draft, bytes: &'a [u8]) -> Result<&'a [u8], LineFault>
+    requires { IsFormat draft.old.format }
+    ensures ok { IfOk result (λ after. TakesLine draft.old bytes.now after.now draft.new) }
+    ensures bad { IsErrOf result LineFault.Bad → RefusesOthers draft.old bytes.now }
 {
     if let Some(text) = after(bytes, b"row ") {
         return read_row(draft, text);
@@ -61,6 +79,9 @@ fn read_line<'a>(alloc: Global, draft: &mut Draft, bytes: &'a [u8]) -> Result<&'
     }
     if let Some(text) = after(bytes, b"group") {
         return read_group(alloc, draft, text);
+    }
+    if let Some(_text) = after(bytes, b"system ") {
+        return read_system(alloc, draft, bytes);
     }
     if let Some(text) = after(bytes, b"tick ") {
         return read_tick(draft, text);
@@ -143,7 +164,7 @@ pub fn read_world(alloc: Global, bytes: &[u8]) -> Result<Document, TextRefused>
 }
 
 fn finished(draft: Draft) -> Document
-    ensures { result.world ≡ world_in draft }
+    ensures { result ≡ document_in draft }
 {
     let world = World {
         profile: draft.format.profile,
@@ -154,5 +175,8 @@ fn finished(draft: Draft) -> Document
         free: FreeList::from_vec(draft.free),
         pools: PoolList::from_vec(draft.pools),
     };
-    Document { world }
+    Document {
+        world,
+        systems: SystemList::from_vec(draft.systems),
+    }
 }

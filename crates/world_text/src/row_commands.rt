@@ -13,7 +13,7 @@ use super::format::VERSION_1;
 use super::line_parts::{take_next_entity, take_next_entry};
 use super::row_lines::{take_field, take_row};
 use super::verbs::{RowVerb, Verb, row_command};
-use super::words::{after, split_name};
+use row_lang::words::{after, split_name};
 use world_model::{Command, Decl, FieldAt, Kind, read_field};
 
 /// The line of a word with an identifier, a component and a row of it behind it, and what stands behind

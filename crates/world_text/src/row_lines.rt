@@ -9,13 +9,13 @@ ghost use Rattle.world_model.specs.Components.{kinds_of, is_target as target};
 ghost use Rattle.world_text.specs.FieldValues.{FieldValue};
 ghost use Rattle.world_text.specs.Formats.{IsFormat};
 ghost use Rattle.world_text.specs.Reading.{IsValueFirst, IsFieldFirst, AreValuesOf, IsRowOf};
-ghost use Rattle.world_text.specs.Drafts.{TakesLine, RefusesLine};
+ghost use Rattle.world_text.specs.Drafts.{TakesLine, RefusesOthers};
 
-use super::LineFault;
 use super::draft::Draft;
 use super::filling::add_row;
-use super::words::after;
 use entity_id::{Entity, Profile, take_entity};
+use row_lang::LineFault;
+use row_lang::words::after;
 use world_model::{Decl, Kind, Row, is_target, take_int};
 
 /// Reads a line `row ENTITY VALUE ..`, whose values are of the kinds of the last pool's component.
@@ -23,7 +23,7 @@ pub fn read_row<'a>(draft: &mut Draft, text: &'a [u8]) -> Result<&'a [u8], LineF
     requires { IsFormat draft.old.format }
     ensures ok { IfOk result (λ after.
         TakesLine draft.old (codes "row " ++ text.now) after.now draft.new) }
-    ensures bad { IsErrOf result LineFault.Bad → RefusesLine draft.old (codes "row " ++ text.now) }
+    ensures bad { IsErrOf result LineFault.Bad → RefusesOthers draft.old (codes "row " ++ text.now) }
 {
     let profile = draft.format.profile;
     let Some((entity, rest)) = take_entity(profile, text) else {

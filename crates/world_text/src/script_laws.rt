@@ -7,10 +7,11 @@ ghost use Rattle.world_model.specs.declared.component.Decl.{Decl};
 ghost use Rattle.world_model.specs.Components.{IsDecl};
 ghost use Rattle.world_text.specs.declared.document.Document.{Document};
 ghost use Rattle.world_text.specs.declared.script.ScriptLine.{ScriptLine};
-ghost use Rattle.world_text.specs.Documents.{AreNamedDecls, IsLawfulDocument};
+ghost use Rattle.row_lang.specs.Naming.{AreNamedDecls};
+ghost use Rattle.world_text.specs.Documents.{IsLawfulDocument};
 ghost use Rattle.world_text.specs.Formats.{version_1};
 ghost use Rattle.world_text.specs.Playing.{document_after};
-ghost use Rattle.world_text.specs.NameLists.{IsCalled};
+ghost use Rattle.row_lang.specs.NameLists.{IsCalled};
 ghost use Rattle.world_text.specs.Scripts.{IsCommandText, IsScriptLine, IsScript, IsBadScriptLine, IsScripted, IsBadScriptedLine};
 
 /// Each component of a document is the one that its name tells. No memory.

@@ -10,8 +10,9 @@ ghost use Rattle.world_text.specs.Scripts.{IsLineFirst, IsScript, IsScripted};
 
 use super::command_lines::{after_first_line, after_last_line, take_script_line};
 use super::reading::read_front;
-use super::{Document, LineFault, Script, ScriptLine, TextRefused};
+use super::{Document, Script, ScriptLine, TextRefused};
 use entity_id::OutOfMemory;
+use row_lang::LineFault;
 use std::alloc::Global;
 use world_model::Decl;
 

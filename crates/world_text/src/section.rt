@@ -12,6 +12,8 @@ pub enum Section {
     Components,
     /// The groups.
     Groups,
+    /// The systems.
+    Systems,
     /// The tick number.
     Tick,
     /// The slots.

@@ -6,8 +6,9 @@ ghost use Rattle.world_model.specs.Worlds.{component_limit};
 ghost use Rattle.world_text.specs.Formats.{version_1};
 ghost use Rattle.world_text.specs.Scripts.{IsCommandText};
 
+use super::ScriptLine;
 use super::command_lines::take_script_line;
-use super::{LineFault, ScriptLine};
+use row_lang::LineFault;
 use std::alloc::Global;
 use world_model::{Command, Decl};
 

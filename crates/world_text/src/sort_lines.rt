@@ -12,7 +12,7 @@ use super::ScriptLine;
 use super::line_parts::take_next_number;
 use super::row_commands::take_next_field;
 use super::verbs::Verb;
-use super::words::after;
+use row_lang::words::after;
 use world_model::{Command, Decl, FieldAt, Kind};
 
 /// The line of the word `sort`, and what stands behind its end.

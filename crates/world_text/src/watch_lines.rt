@@ -13,7 +13,7 @@ ghost use Rattle.world_text.specs.ScriptReading.{IsLineBehind};
 use super::ScriptLine;
 use super::line_parts::{take_last_number, take_last_pool};
 use super::verbs::Verb;
-use super::words::after;
+use row_lang::words::after;
 use world_model::{Decl, EventKind};
 
 /// The line of the word `watch`, and what stands behind its end.

@@ -6,7 +6,7 @@ ghost use Rattle.std.specs.Fmt.{decimal};
 ghost use Rattle.std.specs.List.{flat_map};
 ghost use Rattle.world_text.specs.Formats.{version_1};
 ghost use Rattle.world_text.specs.Replies.{watched_text, unwatched_text, heard_line, heard_text};
-ghost use Rattle.world_text.specs.NameLists.{name_at};
+ghost use Rattle.row_lang.specs.NameLists.{name_at};
 ghost use Rattle.world_text.specs.Scripts.{event_word as word_of};
 
 use super::printing::{ROOM, push_number};

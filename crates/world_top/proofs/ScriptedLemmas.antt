@@ -46,23 +46,23 @@ abbrev pub WasPlayed : List Decl → List ℕ → Held → World → List ℕ �
 WasPlayed decls script held world before after = (lines : List ScriptLine) × IsScript p20_12 decls script lines × IsPlayed held world before after lines
 
 -- the document that the script leaves is the world of the registry at the document's tick
-left_document : (document : Document) (packed : List (List Entity)) (world : World) (before after : List ℕ) (lines : List ScriptLine) → IsPlayed (held_of document packed) world before after lines → record { world = record world { tick = document.world.tick } } ≡ document_after document lines
+left_document : (document : Document) (packed : List (List Entity)) (world : World) (before after : List ℕ) (lines : List ScriptLine) → IsPlayed (held_of document packed) world before after lines → record { world = record world { tick = document.world.tick }; systems = document.systems } ≡ document_after document lines
 left_document document packed world before after lines played =
     let w = document.world in
     let kept = script_keeps version_1.slot_limit w [] lines in
     let left = outcome_from version_1.slot_limit w [] lines in
-    ap (λ (v : World). record { world = record v { tick = w.tick } }) (played.world_is ∙ ap (λ o. o.world) (outcome_at_tick version_1.slot_limit 0 w [] lines))
-    ∙ ap (λ (tick : ℕ). record { world = record left.world { tick = tick } }) (sym kept.tick)
+    ap (λ (v : World). record { world = record v { tick = w.tick }; systems = document.systems }) (played.world_is ∙ ap (λ o. o.world) (outcome_at_tick version_1.slot_limit 0 w [] lines))
+    ∙ ap (λ (tick : ℕ). record { world = record left.world { tick = tick }; systems = document.systems }) (sym kept.tick)
 
 -- and it is lawful
-pub left_is_lawful : (document : Document) (script : List ℕ) (held : Held) (world : World) (before after : List ℕ) → IsLawfulDocument document → held ≡ held_of document held.packed → WasPlayed document.world.decls script held world before after → IsLawfulDocument (record { world = record world { tick = document.world.tick } })
+pub left_is_lawful : (document : Document) (script : List ℕ) (held : Held) (world : World) (before after : List ℕ) → IsLawfulDocument document → held ≡ held_of document held.packed → WasPlayed document.world.decls script held world before after → IsLawfulDocument (record { world = record world { tick = document.world.tick }; systems = document.systems })
 left_is_lawful document script held world before after lawful is played =
     let lines = played.0 in
     let from_it = subst (λ (h : Held). IsPlayed h world before after lines) is played.2 in
     subst IsLawfulDocument (sym (left_document document held.packed world before after lines from_it)) (after_is_lawful document lines lawful played.1.each)
 
 -- what was printed, with the text of that document behind it, is what the script prints
-pub printed_whole : (document : Document) (script : List ℕ) (held : Held) (world : World) (before out whole : List ℕ) → held ≡ held_of document held.packed → before ≡ [] → WasPlayed document.world.decls script held world before out → whole ≡ out ++ text (record { world = record world { tick = document.world.tick } })
+pub printed_whole : (document : Document) (script : List ℕ) (held : Held) (world : World) (before out whole : List ℕ) → held ≡ held_of document held.packed → before ≡ [] → WasPlayed document.world.decls script held world before out → whole ≡ out ++ text (record { world = record world { tick = document.world.tick }; systems = document.systems })
     → (lines : List ScriptLine) × IsScript p20_12 document.world.decls script lines × (whole ≡ scripted_text document lines)
 printed_whole document script held world before out whole is nothing was printed =
     let w = document.world in

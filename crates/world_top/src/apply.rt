@@ -18,7 +18,7 @@ use std::alloc::Global;
 use std::marker::Brand;
 use std::sync::ledger::{Blank, Ledger};
 use world_model::World;
-use world_text::{Document, TextRefused, VERSION_1, push_world, read_front};
+use world_text::{Document, SystemList, TextRefused, VERSION_1, push_world, read_front};
 
 /// What `apply` prints for an input, which is a document and a script behind it: the replies of the
 /// script's lines, and the canonical text of the document that it leaves.
@@ -72,7 +72,7 @@ fn scripted<G: Ledger>(
     ensures cause { IfErr result (IsScriptCause p20_12 document.world.decls script.now) }
     ensures few { IfErr result (IsFarAtMost (length script.now + 3)) }
 {
-    let world = document.world;
+    let Document { world, systems } = document;
     let mut registry = Registry::load(alloc, &world, VERSION_1.slot_limit)?;
     // The registry has the rest of the document now.
     let World { decls, tick, .. } = world;
@@ -85,22 +85,23 @@ fn scripted<G: Ledger>(
         &mut out,
         steps,
     )?;
-    let whole = finish(&registry, tick, out)?;
+    let whole = finish(&registry, tick, systems, out)?;
     Ok(whole)
 }
 
-// Appends the canonical text of the document that a registry stands for, at a tick.
+// Appends the canonical text of the document that a registry stands for, at a tick, with these systems.
 fn finish(
     registry: &Registry<Recorder>,
     tick: u64,
+    systems: SystemList,
     mut out: Vec<u8>,
 ) -> Result<Vec<u8>, OutOfMemory>
     requires { IsLawfulDocument
-        (record { world = record registry.now.world { tick = tick } }) }
+        (record { world = record registry.now.world { tick = tick }; systems = systems }) }
     ensures { IfOk result (λ whole. whole.items ≡ out.items ++
-        text (record { world = record registry.now.world { tick = tick } })) }
+        text (record { world = record registry.now.world { tick = tick }; systems = systems })) }
 {
     let world = registry.save(tick)?;
-    push_world(&mut out, &Document { world })?;
+    push_world(&mut out, &Document { world, systems })?;
     Ok(out)
 }

@@ -5,7 +5,7 @@ ghost use Rattle.entity_id.specs.Identifiers.{p20_12};
 ghost use Rattle.world_model.specs.declared.command.Reply.TheVariants.{Refused};
 ghost use Rattle.world_text.specs.declared.script.ScriptLine.{ScriptLine};
 ghost use Rattle.world_text.specs.declared.script.ScriptLine.TheVariants.{Run};
-ghost use Rattle.world_text.specs.Documents.{AreNamedDecls};
+ghost use Rattle.row_lang.specs.Naming.{AreNamedDecls};
 ghost use Rattle.world_text.specs.Playing.{Watching};
 ghost use Rattle.world_text.specs.Refusals.{IsFarAtMost, IsScriptCause};
 ghost use Rattle.world_text.specs.Scripts.{IsScript, IsScriptLine, IsCommandLine, IsLineFirst};

@@ -3,7 +3,8 @@
 ghost use Rattle.std.specs.Prelude.{◌≡◌, ◌<◌, ◌≤◌};
 ghost use Rattle.std.specs.List.{AllByRecursion};
 ghost use Rattle.entity_id.specs.Identifiers.{p20_12};
-ghost use Rattle.world_text.specs.Documents.{AreNamedDecls, HasAscendingLists, IsLawfulDocument};
+ghost use Rattle.row_lang.specs.Naming.{AreNamedDecls};
+ghost use Rattle.world_text.specs.Documents.{HasAscendingLists, IsLawfulDocument};
 ghost use Rattle.world_text.specs.Formats.{tick_limit, version_1};
 
 use super::*;
@@ -13,8 +14,10 @@ use sparse_set::Steps;
 use std::alloc::Global;
 use std::marker::Brand;
 use std::sync::ledger::{Blank, Ledger};
-use world_model::{Decl, World};
-use world_text::{Document, VERSION_1, push_reply, push_world, read_command, read_front};
+use world_model::Decl;
+use world_text::{
+    Document, SystemList, VERSION_1, push_reply, push_world, read_command, read_front,
+};
 
 // What these lines are answered behind a document, and then the text of the document that they leave.
 fn answers<G: Ledger>(
@@ -30,20 +33,21 @@ fn answers<G: Ledger>(
     let mut steps = Steps::<G>::new(blank);
     let front = read_front(alloc, document)?;
     let mut out = Vec::new(alloc);
-    answer_from(alloc, &front.document.world, lines, &mut out, &mut steps)?;
+    answer_from(alloc, &front.document, lines, &mut out, &mut steps)?;
     Ok(out)
 }
 
 // Appends what lines are answered from this world on, and the text of the document that they leave.
 fn answer_from<G: Ledger>(
     alloc: Global,
-    world: &World,
+    document: &Document,
     lines: &[&[u8]],
     out: &mut Vec<u8>,
     steps: &mut Steps<G>,
 ) -> Result<(), Fail>
-    requires { IsLawfulDocument (record { world = world.now }) }
+    requires { IsLawfulDocument document.now }
 {
+    let world = &document.world;
     let mut registry = Registry::load(alloc, world, VERSION_1.slot_limit)?;
     answer_all(
         alloc,
@@ -53,7 +57,7 @@ fn answer_from<G: Ledger>(
         out,
         steps,
     )?;
-    print(&registry, world.tick, out)
+    print(alloc, &registry, world.tick, out)
 }
 
 // Appends what lines are answered.
@@ -80,8 +84,13 @@ fn answer_all<G: Ledger>(
     Ok(())
 }
 
-// Appends the text of the document that a registry stands for.
-fn print(registry: &Registry<Recorder>, tick: u64, out: &mut Vec<u8>) -> Result<(), Fail>
+// Appends the text of the document that a registry stands for, without systems.
+fn print(
+    alloc: Global,
+    registry: &Registry<Recorder>,
+    tick: u64,
+    out: &mut Vec<u8>,
+) -> Result<(), Fail>
     requires named { AreNamedDecls registry.now.world.decls }
     requires profile { registry.now.world.profile ≡ p20_12 }
     requires ascending { AllByRecursion HasAscendingLists registry.now.world.groups }
@@ -89,7 +98,8 @@ fn print(registry: &Registry<Recorder>, tick: u64, out: &mut Vec<u8>) -> Result<
     requires tick { tick ≤ tick_limit }
 {
     let world = registry.save(tick)?;
-    push_world(out, &Document { world })?;
+    let systems = SystemList::from_vec(Vec::new(alloc));
+    push_world(out, &Document { world, systems })?;
     Ok(())
 }
 

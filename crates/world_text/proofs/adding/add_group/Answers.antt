@@ -8,6 +8,7 @@ use Rattle.world_text.specs.Fitting.{are_listed, may_join}
 use Rattle.world_text.specs.Meaning.{decl_in, slot_in, next_in, group_of}
 use Rattle.world_text.proofs.MeaningLemmas.{keeps, groups_gain, last_section_push, pools_in-other}
 use Rattle.world_text.proofs.SettledLemmas.{settled_same}
+use Rattle.world_text.proofs.SystemLemmas.{systems_keep}
 use Rattle.world_text.proofs.AddingLemmas.{and_true, and_false_right, placed_at, kept_tick}
 use Rattle.world_text.proofs.GroupLemmas.{group_declared}
 use Rattle.world_text.proofs.adding.add_group.Goals as goal
@@ -40,6 +41,7 @@ returns-clause-ok c = λ named is listed.
             section = sym (last_section_push before l p.high);
             decls = keeps decl_in before l _ refl s.decls;
             groups = c.in_ok-push.ensures.items ∙ (λ i. groups ++ is i ∷ []) ∙ (λ i. s.groups i ++ group_of (s.decls i) named ∷ []) ∙ groups_gain before named;
+            systems = s.systems ∙ systems_keep before l refl tt;
             tick = s.tick ∙ kept_tick before l refl;
             slots = keeps slot_in before l _ refl s.slots;
             free = keeps next_in before l _ refl s.free;

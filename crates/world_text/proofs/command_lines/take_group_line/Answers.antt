@@ -1,6 +1,6 @@
 use Rattle.std.proofs.Common.{◌≡◌, Err, ap}
 use Rattle.std.proofs.lemmas.Result.{err_from_is_err_and}
-use Rattle.world_text.specs.declared.fault.LineFault.TheVariants.{Bad}
+use Rattle.row_lang.specs.declared.fault.LineFault.TheVariants.{Bad}
 use Rattle.world_text.proofs.command_lines.take_group_line.Goals as goal
 
 pub returns-in_err-decl-clause-bad : goal.returns-in_err-decl-clause-bad

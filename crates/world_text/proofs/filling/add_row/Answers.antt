@@ -9,6 +9,7 @@ use Rattle.world_text.specs.Fitting.{is_above, goes_on_last}
 use Rattle.world_text.specs.Meaning.{decl_in, slot_in, next_in}
 use Rattle.world_text.proofs.MeaningLemmas.{keeps, groups_keep, last_section_push, pools_in-row}
 use Rattle.world_text.proofs.SettledLemmas.{settled_same}
+use Rattle.world_text.proofs.SystemLemmas.{systems_keep}
 use Rattle.world_text.proofs.AddingLemmas.{and_true, only_pools, placed_at, kept_tick}
 use Rattle.world_text.proofs.filling.add_row.Goals as goal
 
@@ -34,6 +35,7 @@ returns-clause-ok c =
             section = only_pools draft.section placed ∙ sym (last_section_push before l p.high);
             decls = keeps decl_in before l _ refl s.decls;
             groups = s.groups ∙ groups_keep before l refl refl;
+            systems = s.systems ∙ systems_keep before l refl tt;
             tick = s.tick ∙ kept_tick before l refl;
             slots = keeps slot_in before l _ refl s.slots;
             free = keeps next_in before l _ refl s.free;

@@ -1,5 +1,5 @@
 use Rattle.std.proofs.Common.{◌≡◌, ◌++◌, List, ℕ, ap, ◌∙◌, codes, append_assoc}
-use Rattle.world_text.specs.NameLists.{names_text, part_text}
+use Rattle.row_lang.specs.NameLists.{names_text, part_text}
 use Rattle.world_text.proofs.group_printing.push_group.Goals as goal
 
 five_parts : (start one two three four five a b d e f : List ℕ) → one ≡ start ++ a → two ≡ one ++ b → three ≡ two ++ d → four ≡ three ++ e → five ≡ four ++ f → five ≡ start ++ ((a ++ (b ++ (d ++ e))) ++ f)

@@ -1,5 +1,5 @@
 use Rattle.std.proofs.Common.{◌≡◌, ◌++◌, take}
-use Rattle.world_text.specs.NameLists.{names_text}
+use Rattle.row_lang.specs.NameLists.{names_text}
 use Rattle.world_text.proofs.group_printing.push_names.Given as goal
 
 abbrev pub invariant-loop-pool : goal.invariant-loop-pool

@@ -1,5 +1,5 @@
 use Rattle.std.proofs.Common.{List, [], ℕ, subst, arith}
-use Rattle.world_text.specs.ScriptReading.{AreSomeNext}
+use Rattle.row_lang.specs.Reading.{AreSomeNext}
 use Rattle.world_text.proofs.ListLineLemmas.{no_few_names, no_line_end}
 use Rattle.world_text.proofs.list_lines.take_last_names.Goals as goal
 

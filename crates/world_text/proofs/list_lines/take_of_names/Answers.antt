@@ -1,7 +1,7 @@
 use Rattle.std.proofs.Common.{◌≡◌, Err, ap, arith}
 use Rattle.std.proofs.lemmas.Result.{err_from_is_err_and}
 use Rattle.world_text.specs.Formats.{version_1}
-use Rattle.world_text.specs.declared.fault.LineFault.TheVariants.{Bad}
+use Rattle.row_lang.specs.declared.fault.LineFault.TheVariants.{Bad}
 use Rattle.world_text.proofs.ListLineLemmas.{no_entity_names}
 use Rattle.world_text.proofs.list_lines.take_of_names.Goals as goal
 

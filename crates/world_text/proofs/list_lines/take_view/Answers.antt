@@ -1,9 +1,9 @@
 use Rattle.std.proofs.Common.{◌≡◌, Err, refl, sym, ap, subst, List, ℕ, arith}
 use Rattle.std.specs.Prelude.{codes}
 use Rattle.std.proofs.lemmas.Result.{err_from_is_err_and}
-use Rattle.world_text.specs.declared.fault.LineFault.TheVariants.{Bad}
-use Rattle.world_text.specs.NameLists.{AreNamedOnce}
-use Rattle.world_text.specs.ScriptReading.{IsPartNext}
+use Rattle.row_lang.specs.declared.fault.LineFault.TheVariants.{Bad}
+use Rattle.row_lang.specs.NameLists.{AreNamedOnce}
+use Rattle.row_lang.specs.Reading.{IsPartNext}
 use Rattle.world_text.proofs.ListLineLemmas.{no_view_names, no_view_without, no_few_in_view, no_view_end}
 use Rattle.world_text.proofs.list_lines.take_view.Goals as goal
 

@@ -2,7 +2,7 @@ use Rattle.std.proofs.Common.{◌≡◌, List, Err, ap, sym, subst}
 use Rattle.std.proofs.lemmas.Result.{err_from_is_err_and}
 use Rattle.world_model.specs.declared.component.Decl.{Decl}
 use Rattle.world_text.specs.GroupLines.{IsGroupFirst}
-use Rattle.world_text.specs.declared.fault.LineFault.TheVariants.{Bad}
+use Rattle.row_lang.specs.declared.fault.LineFault.TheVariants.{Bad}
 use Rattle.world_text.proofs.ReadGroupLemmas.{group_taken, group_not_added, group_not_read}
 use Rattle.world_text.proofs.name_lines.read_group.Goals as goal
 

@@ -5,7 +5,7 @@ use Rattle.entity_id.proofs.CutLemmas.{no_cut}
 use Rattle.world_model.specs.Names.{is_name}
 use Rattle.world_text.specs.LineKinds as line
 use Rattle.world_text.specs.Drafts.{Refuses}
-use Rattle.world_text.specs.declared.fault.LineFault.TheVariants.{Bad}
+use Rattle.row_lang.specs.declared.fault.LineFault.TheVariants.{Bad}
 use Rattle.world_text.proofs.PartLemmas.{refuses_pool, name_is_front}
 use Rattle.world_text.proofs.name_lines.read_pool.Goals as goal
 

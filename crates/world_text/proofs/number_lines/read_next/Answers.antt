@@ -2,7 +2,7 @@ use Rattle.std.proofs.Common.{◌≡◌, Err, ap, subst, arith}
 use Rattle.std.proofs.lemmas.Result.{err_from_is_err_and}
 use Rattle.world_text.specs.LineKinds as line
 use Rattle.world_text.specs.Drafts.{Refuses}
-use Rattle.world_text.specs.declared.fault.LineFault.TheVariants.{Bad}
+use Rattle.row_lang.specs.declared.fault.LineFault.TheVariants.{Bad}
 use Rattle.world_text.proofs.PartLemmas.{refuses_next, same_number_line}
 use Rattle.world_text.proofs.number_lines.read_next.Goals as goal
 

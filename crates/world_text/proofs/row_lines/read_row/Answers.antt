@@ -1,6 +1,6 @@
 use Rattle.std.proofs.Common.{◌≡◌, ◌-◌, length, slice_get, Some, Err, ap}
 use Rattle.std.proofs.lemmas.Result.{err_from_is_err_and}
-use Rattle.world_text.specs.declared.fault.LineFault.TheVariants.{Bad}
+use Rattle.row_lang.specs.declared.fault.LineFault.TheVariants.{Bad}
 use Rattle.world_text.proofs.FormatLemmas.{format_limits}
 use Rattle.world_text.proofs.RowLineLemmas.{takes_line, no_entity, no_values, no_place}
 use Rattle.world_text.proofs.row_lines.read_row.Goals as goal

@@ -1,6 +1,6 @@
 use Rattle.std.proofs.Common.{◌≡◌, ◌==◌, ◌++◌, ◌∷◌, [], ℕ, List, true, length, Err, sym, ap, subst, ◌∙◌, arith}
 use Rattle.std.proofs.lemmas.Result.{err_from_is_err_and}
-use Rattle.world_text.specs.declared.fault.LineFault.TheVariants.{Bad}
+use Rattle.row_lang.specs.declared.fault.LineFault.TheVariants.{Bad}
 use Rattle.world_text.specs.declared.script.ScriptLine.TheVariants.{Run}
 use Rattle.world_text.specs.Formats.{version_1}
 use Rattle.world_text.specs.Scripts.{IsLineFirst}

@@ -1,9 +1,0 @@
-use Rattle.std.proofs.Common.{length}
-use Rattle.world_text.proofs.NameListLemmas.{AreNamesTaken}
-use Rattle.world_text.proofs.name_lists.take_names.Given as goal
-
-abbrev pub invariant-loop-pool : goal.invariant-loop-pool
-invariant-loop-pool l = AreNamesTaken l.decls l.others l.text l.pools.items l.rest
-
-abbrev pub decreases-loop-pool : goal.decreases-loop-pool
-decreases-loop-pool l = length l.rest
