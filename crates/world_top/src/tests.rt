@@ -14,7 +14,6 @@ mod calls;
 mod groups;
 mod snapshot;
 mod starting;
-mod systems;
 mod texts;
 mod watches;
 
