@@ -14,6 +14,7 @@ mod calls;
 mod groups;
 mod snapshot;
 mod starting;
+mod systems;
 mod texts;
 mod watches;
 
