@@ -99,11 +99,7 @@ pub fn packed_at<'a>(set: &Option<&'a SparseSet>) -> &'a [Entity]
     ensures few { length result.now < 2 ^ 32 }
 {
     match set {
-        Some(set) => {
-            // That a set has fewer than 2^32 identifiers is told by its length.
-            let _len = set.len();
-            set.packed()
-        }
+        Some(set) => set.packed(),
         None => &[],
     }
 }

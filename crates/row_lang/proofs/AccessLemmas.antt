@@ -10,7 +10,7 @@ use Rattle.row_lang.specs.declared.access_list.AccessList.{AccessList}
 use Rattle.row_lang.specs.declared.access_list.AccessList.TheVariants as list
 use Rattle.row_lang.specs.declared.part.Part.{Part}
 use Rattle.row_lang.specs.declared.part.Part.TheVariants as part
-use Rattle.row_lang.specs.Frames.{IsLawfulAccess, own_pools}
+use Rattle.world_model.specs.Frames.{IsLawfulAccess, own_pools}
 use Rattle.row_lang.specs.Systems.{Draft, ascending, barred, is_between, listed, may_do_behind, may_list_behind, order, part_of, with_list}
 use Rattle.row_lang.proofs.CanonicalLemmas.{IsOrdered, before_list}
 use Rattle.row_lang.proofs.ListLineLemmas.{IsAdmissible}

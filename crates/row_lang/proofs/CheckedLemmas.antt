@@ -10,7 +10,7 @@ use Rattle.row_lang.specs.declared.access_list.AccessList.TheVariants as list
 use Rattle.row_lang.specs.declared.part.Part.TheVariants as part
 use Rattle.row_lang.specs.BodyLines.{BodyLine, Lists, Do, Close}
 use Rattle.row_lang.specs.Effects.{AreStatements, IsChecked, system_effect}
-use Rattle.row_lang.specs.Frames.{IsFitSystem}
+use Rattle.world_model.specs.Frames.{IsFitSystem}
 use Rattle.row_lang.specs.Naming.{names_of}
 use Rattle.row_lang.specs.Places.{is_statement}
 use Rattle.row_lang.specs.Spelling.{IsBodyLine, IsToken}

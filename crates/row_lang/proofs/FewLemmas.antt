@@ -29,7 +29,7 @@ use Rattle.row_lang.specs.Arithmetic.{is_zero}
 use Rattle.row_lang.specs.Bodies.{Done, after_any_deed, after_body, after_deed, after_statement, deed_of, is_deed}
 use Rattle.row_lang.specs.Effects.{AreStatements, IsChecked, done_for, own_rows, setting_of, system_effect}
 use Rattle.row_lang.specs.FieldNames.{kind_at}
-use Rattle.row_lang.specs.Frames.{GivesAtMost, map_at, members, own_pools}
+use Rattle.world_model.specs.Frames.{GivesAtMost, map_at, members, own_pools}
 use Rattle.row_lang.specs.Places.{fills, has_kind, is_kind, is_own, is_statement, only_if, opened, value_opened, value_of_field, whole_value}
 use Rattle.row_lang.specs.Systems.{System, command_count, is_command, is_set}
 use Rattle.row_lang.specs.Naming.{names_of}

@@ -25,7 +25,7 @@ use Rattle.world_model.specs.Ticks.{Maps}
 use Rattle.world_model.specs.Worlds.{AreLawfulRows}
 use Rattle.row_lang.specs.Bodies.{padded_row}
 use Rattle.row_lang.specs.Effects.{AreStatements, IsChecked, changed_from, done_for, rewritten, setting_of, system_effect}
-use Rattle.row_lang.specs.Frames.{AreFittingMaps, IsFitSystem, IsWorldOf, is_member, map_at, members, own_pools}
+use Rattle.world_model.specs.Frames.{AreFittingMaps, IsFitSystem, IsWorldOf, is_member, map_at, members, own_pools}
 use Rattle.row_lang.specs.Naming.{names_of}
 use Rattle.row_lang.specs.Systems.{System}
 use Rattle.row_lang.specs.Values.{known_for, own_row}

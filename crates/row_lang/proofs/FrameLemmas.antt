@@ -11,7 +11,7 @@ use Rattle.world_model.specs.declared.component.Row.{Row}
 use Rattle.world_model.specs.Groups.{has_pool}
 use Rattle.world_model.specs.Ticks.{Maps}
 use Rattle.row_lang.specs.Effects.{changed_from, done_for, rewritten, system_effect}
-use Rattle.row_lang.specs.Frames.{ChangesOnlyItsRows, is_member, map_at}
+use Rattle.world_model.specs.Frames.{ChangesOnlyItsRows, is_member, map_at}
 use Rattle.row_lang.specs.Systems.{System}
 use Rattle.row_lang.specs.Values.{own_row}
 

@@ -15,7 +15,7 @@ use Rattle.world_model.specs.Components.{IsRow, fits}
 use Rattle.world_model.specs.Slots.{is_live}
 use Rattle.world_model.specs.Ticks.{Maps, System}
 use Rattle.world_model.specs.Worlds.{AreLawfulRows, IsLawful}
-use Rattle.row_lang.specs.Frames.{AreFittingMaps, ChangesOnlyItsRows, IsFitSystem, IsWorldOf}
+use Rattle.world_model.specs.Frames.{AreFittingMaps, ChangesOnlyItsRows, IsFitSystem, IsWorldOf}
 
 -- what holds of the identifiers holds of the entries
 all_of_keys : (P : Entity → Type 0) (rows : List (Entity × Row)) → AllByRecursion P (entries.keys rows) → AllByRecursion (λ entry. P entry.0) rows

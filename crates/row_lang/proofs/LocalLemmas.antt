@@ -15,7 +15,7 @@ use Rattle.world_model.specs.Groups.{has_pool}
 use Rattle.world_model.specs.Ticks.{Maps}
 use Rattle.row_lang.specs.Bodies.{Done, body_done}
 use Rattle.row_lang.specs.Effects.{own_rows, done_for, rewritten, system_effect}
-use Rattle.row_lang.specs.Frames.{DependsOnItsLists, AreSameIn, own_pools, system_pools, is_member, members, map_at}
+use Rattle.world_model.specs.Frames.{DependsOnItsLists, AreSameIn, own_pools, system_pools, is_member, members, map_at}
 use Rattle.row_lang.specs.Systems.{System}
 use Rattle.row_lang.specs.Values.{own_row}
 use Rattle.row_lang.proofs.FrameLemmas.{slice_get-changed_from}

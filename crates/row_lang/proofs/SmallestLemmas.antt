@@ -21,7 +21,7 @@ use Rattle.world_model.specs.Groups.{has_pool}
 use Rattle.world_model.specs.Ticks.{Maps}
 use Rattle.world_model.specs.Worlds.{AreLawfulRows, IsLawful}
 use Rattle.row_lang.specs.Effects.{IsChecked, system_effect}
-use Rattle.row_lang.specs.Frames.{AreAscendingMaps, GivesAtMostOfEach, map_at, members, own_pools}
+use Rattle.world_model.specs.Frames.{AreAscendingMaps, GivesAtMostOfEach, map_at, members, own_pools}
 use Rattle.row_lang.specs.Systems.{System, command_count}
 use Rattle.row_lang.proofs.FewLemmas.{keys_counted, orders_counted}
 

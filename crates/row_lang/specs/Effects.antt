@@ -12,7 +12,7 @@ use Rattle.world_model.specs.Groups.{has_pool}
 use Rattle.world_model.specs.Ticks.{Maps, Effect}
 use Rattle.row_lang.specs.declared.token.Token.{Token}
 use Rattle.row_lang.specs.Bodies.{Done, body_done}
-use Rattle.row_lang.specs.Frames.{IsLawfulAccess, own_pools, map_at, is_member, members}
+use Rattle.world_model.specs.Frames.{IsLawfulAccess, own_pools, map_at, is_member, members}
 use Rattle.row_lang.specs.Naming.{names_of}
 use Rattle.row_lang.specs.Places.{is_statement}
 use Rattle.row_lang.specs.Spelling.{IsToken}

@@ -10,7 +10,6 @@ pub mod Systems
 pub mod Arithmetic
 pub mod Values
 pub mod Bodies
-pub mod Frames
 pub mod Effects
 pub mod Stacks
 pub mod TokenReading

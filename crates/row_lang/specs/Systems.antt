@@ -6,6 +6,7 @@ use Rattle.std.specs.Prelude.{◌≡◌, ℕ, ◌+◌, Bool, true, false, ◌&&�
 use Rattle.std.specs.List.{flat_map, list_any, filter, range_with_len, AllByRecursion}
 use Rattle.world_model.specs.declared.access.Access.{Access}
 use Rattle.world_model.specs.declared.component.Decl.{Decl}
+use Rattle.world_model.specs.Frames.{pool_limit}
 use Rattle.world_model.specs.Groups.{has_pool, are_distinct, are_declared}
 use Rattle.world_model.specs.Names.{is_name}
 use Rattle.row_lang.specs.declared.access_list.AccessList.{AccessList}
@@ -27,10 +28,6 @@ pub record System : Type 0 where
   pub name : List ℕ
   pub access : Access
   pub statements : List (List Token)
-
--- how many components the lists name at most, all together
-abbrev pub pool_limit : ℕ
-pool_limit = 16
 
 -- how many `do` lines a system has at most
 abbrev pub statement_limit : ℕ

@@ -1,9 +1,10 @@
 ghost use Rattle.std.specs.Prelude.{◌≡◌, ◌≢◌, ◌≤◌, ◌++◌, ℕ, List, IfSome, IfNone};
 ghost use Rattle.std.specs.List.{list_any};
+ghost use Rattle.world_model.specs.Frames.{pool_limit};
 ghost use Rattle.world_model.specs.Groups.{has_pool as is_listed};
 ghost use Rattle.row_lang.specs.declared.access_list.AccessList.{AccessList as AnyList};
 ghost use Rattle.row_lang.specs.Spelling.{list_word};
-ghost use Rattle.row_lang.specs.Systems.{barred, has_room, listed, pool_limit};
+ghost use Rattle.row_lang.specs.Systems.{barred, has_room, listed};
 
 use super::kinds::has_pool;
 use super::words::after;

@@ -74,10 +74,12 @@ impl SystemDraft {
     fn add_list(&mut self, list: AccessList, names: &[u8], decls: &[Decl]) -> Result<(), LineFault>
         requires named { AreNamedDecls decls.now }
         requires short { length (list_word list ++ names.now) ≤ line_limit }
-        ensures ok { OnOk result (TakesLine decls.now self.old (list_word list ++ names.now) self.new) }
+        ensures ok { OnOk result
+            (TakesLine decls.now self.old (list_word list ++ names.now) self.new) }
         ensures same { OnOk result (self.new.system.statements ≡ self.old.system.statements) }
         ensures added { OnOk result (added_of self.new ≡ Added.More) }
-        ensures bad { IsErrOf result LineFault.Bad → RefusesLine decls.now self.old (list_word list ++ names.now) }
+        ensures bad { IsErrOf result LineFault.Bad →
+            RefusesLine decls.now self.old (list_word list ++ names.now) }
         ensures err { OnErr result (self.new ≡ self.old) }
     {
         if !self.part.may_list(list) {
@@ -125,10 +127,12 @@ impl SystemDraft {
 
     // Adds the last line. No memory.
     fn close(&mut self) -> Result<(), LineFault>
-        ensures ok { OnOk result ((decls : List AnyDecl) → TakesLine decls self.old (codes "end") self.new) }
+        ensures ok { OnOk result
+            ((decls : List AnyDecl) → TakesLine decls self.old (codes "end") self.new) }
         ensures same { OnOk result (self.new.system ≡ self.old.system) }
         ensures added { OnOk result (added_of self.new ≡ Added.Closed) }
-        ensures bad { IsErrOf result LineFault.Bad → (decls : List AnyDecl) → RefusesLine decls self.old (codes "end") }
+        ensures bad { IsErrOf result LineFault.Bad → (decls : List AnyDecl) →
+            RefusesLine decls self.old (codes "end") }
         ensures err { OnErr result (self.new ≡ self.old) }
     {
         if !self.part.may_do() {

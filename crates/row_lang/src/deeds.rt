@@ -18,7 +18,8 @@ const NESTING_LIMIT: u32 = 16;
 /// Puts the places behind a statement's first word on the stack.
 pub fn open_statement(token: Token, stack: &mut ArrayVec<Place, PLACE_LIMIT>) -> bool
     requires { length stack.old.items + 2 ≤ place_limit }
-    ensures { Opens (statement_opened token) (reverse stack.old.items) (reverse stack.new.items) result }
+    ensures { Opens (statement_opened token) (reverse stack.old.items)
+        (reverse stack.new.items) result }
 {
     match token {
         Token::Word(Keyword::When) => {
@@ -60,7 +61,8 @@ pub fn open_deed(token: Token, stack: &mut ArrayVec<Place, PLACE_LIMIT>) -> bool
 // Puts a place for an entity, and behind it another one, on the stack.
 fn open_of_entity(behind: Place, stack: &mut ArrayVec<Place, PLACE_LIMIT>) -> bool
     requires { length stack.old.items + 2 ≤ place_limit }
-    ensures { Opens (Some (whole_value Kind.Ref ∷ behind ∷ [])) (reverse stack.old.items) (reverse stack.new.items) result }
+    ensures { Opens (Some (whole_value Kind.Ref ∷ behind ∷ [])) (reverse stack.old.items)
+        (reverse stack.new.items) result }
 {
     stack.push(behind);
     stack.push(Place::Value(Kind::Ref, NESTING_LIMIT));
@@ -75,7 +77,8 @@ pub fn open_written(
     stack: &mut ArrayVec<Place, PLACE_LIMIT>,
 ) -> bool
     requires { length stack.old.items + 1 ≤ place_limit }
-    ensures { Opens (written_opened decls.now access.now token) (reverse stack.old.items) (reverse stack.new.items) result }
+    ensures { Opens (written_opened decls.now access.now token) (reverse stack.old.items)
+        (reverse stack.new.items) result }
 {
     match token {
         Token::Field(at) => {
@@ -92,7 +95,8 @@ pub fn open_written(
 /// Puts the value of a field of any component on the stack.
 pub fn open_sent(decls: &[Decl], token: Token, stack: &mut ArrayVec<Place, PLACE_LIMIT>) -> bool
     requires { length stack.old.items + 1 ≤ place_limit }
-    ensures { Opens (sent_opened decls.now token) (reverse stack.old.items) (reverse stack.new.items) result }
+    ensures { Opens (sent_opened decls.now token) (reverse stack.old.items)
+        (reverse stack.new.items) result }
 {
     match token {
         Token::Field(at) => open_field(decls, at, stack),
@@ -103,7 +107,8 @@ pub fn open_sent(decls: &[Decl], token: Token, stack: &mut ArrayVec<Place, PLACE
 /// Puts what is added to a whole number's field on the stack.
 pub fn open_raised(decls: &[Decl], token: Token, stack: &mut ArrayVec<Place, PLACE_LIMIT>) -> bool
     requires { length stack.old.items + 1 ≤ place_limit }
-    ensures { Opens (raised_opened decls.now token) (reverse stack.old.items) (reverse stack.new.items) result }
+    ensures { Opens (raised_opened decls.now token) (reverse stack.old.items)
+        (reverse stack.new.items) result }
 {
     match token {
         Token::Field(at) => {
@@ -121,7 +126,8 @@ pub fn open_raised(decls: &[Decl], token: Token, stack: &mut ArrayVec<Place, PLA
 // Puts a value of a field's kind on the stack.
 fn open_field(decls: &[Decl], at: FieldAt, stack: &mut ArrayVec<Place, PLACE_LIMIT>) -> bool
     requires { length stack.old.items + 1 ≤ place_limit }
-    ensures { Opens (value_of_field decls.now at) (reverse stack.old.items) (reverse stack.new.items) result }
+    ensures { Opens (value_of_field decls.now at) (reverse stack.old.items)
+        (reverse stack.new.items) result }
 {
     match kind_of(decls, at) {
         Some(kind) => {
@@ -135,7 +141,8 @@ fn open_field(decls: &[Decl], at: FieldAt, stack: &mut ArrayVec<Place, PLACE_LIM
 /// Puts a value for each field of a component on the stack.
 pub fn open_given(decls: &[Decl], token: Token, stack: &mut ArrayVec<Place, PLACE_LIMIT>) -> bool
     requires { length stack.old.items + 4 ≤ place_limit }
-    ensures { Opens (given_opened decls.now token) (reverse stack.old.items) (reverse stack.new.items) result }
+    ensures { Opens (given_opened decls.now token) (reverse stack.old.items)
+        (reverse stack.new.items) result }
 {
     match token {
         Token::Pool(pool) => open_fields(decls, pool, stack),
@@ -145,7 +152,9 @@ pub fn open_given(decls: &[Decl], token: Token, stack: &mut ArrayVec<Place, PLAC
 
 fn open_fields(decls: &[Decl], pool: u32, stack: &mut ArrayVec<Place, PLACE_LIMIT>) -> bool
     requires { length stack.old.items + 4 ≤ place_limit }
-    ensures { Opens (option_map_or (λ decl. Some (map whole_value (kinds_of decl))) (slice_get decls.now pool) None) (reverse stack.old.items) (reverse stack.new.items) result }
+    ensures { Opens (option_map_or (λ decl. Some (map whole_value (kinds_of decl)))
+        (slice_get decls.now pool) None) (reverse stack.old.items) (reverse stack.new.items)
+        result }
 {
     match decls.get(pool as usize) {
         Some(decl) => {

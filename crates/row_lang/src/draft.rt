@@ -9,7 +9,7 @@ ghost use Rattle.row_lang.specs.Spelling.{first_line_text};
 ghost use Rattle.row_lang.specs.Systems.{IsDraftOf, IsSystemOf, is_closed as has_closed};
 
 use super::words::after;
-use super::{Added, LineFault, Part, SystemDef};
+use super::{LineFault, Part, SystemDef};
 use entity_id::Name;
 use std::alloc::Global;
 use std::marker::Model;
@@ -34,13 +34,15 @@ pub struct SystemDraft {
 
 impl Model for SystemDraft {
     ghost use Rattle.std.specs.Prelude.{◌≤◌};
-    ghost use Rattle.row_lang.specs.Systems.{Draft, command_count, command_limit, listed, pool_limit};
+    ghost use Rattle.world_model.specs.Frames.{pool_limit};
+    ghost use Rattle.row_lang.specs.Systems.{Draft, command_count, command_limit, listed};
 
     ghost Value = { Draft };
 
     ghost view = { λ a. record { part = a.part; system = a.def } };
 
-    ghost invariant = { λ a. (listed a.def.access ≤ pool_limit) × (command_count a.def.statements ≤ command_limit) };
+    ghost invariant = { λ a. (listed a.def.access ≤ pool_limit) ×
+        (command_count a.def.statements ≤ command_limit) };
 }
 
 impl SystemDraft {

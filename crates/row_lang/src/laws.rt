@@ -16,12 +16,16 @@ ghost use Rattle.row_lang.specs.Systems.{Draft, System, IsSystemOf, admits, body
 /// A text is one line of a system at most, behind the same lines, and the texts of a system's lines stand
 /// for one system. No memory. (This project's own.)
 pub fn one_system()
-    ensures line { (decls : List Decl) (draft : Draft) (line other : BodyLine) → AreNamedDecls decls →
+    ensures line { (decls : List Decl) (draft : Draft) (line other : BodyLine) →
+        AreNamedDecls decls →
         IsBodyLine (names_of decls) line → IsBodyLine (names_of decls) other →
         admits decls draft line ≡ true → admits decls draft other ≡ true →
-        body_line_text (names_of decls) line ≡ body_line_text (names_of decls) other → line ≡ other }
-    ensures system { (decls : List Decl) (name : List ℕ) (lines others : List BodyLine) (system other : System) →
-        AreNamedDecls decls → IsSystemOf decls name lines system → IsSystemOf decls name others other →
+        body_line_text (names_of decls) line ≡ body_line_text (names_of decls) other →
+        line ≡ other }
+    ensures system { (decls : List Decl) (name : List ℕ) (lines others : List BodyLine)
+        (system other : System) →
+        AreNamedDecls decls → IsSystemOf decls name lines system →
+        IsSystemOf decls name others other →
         map (body_line_text (names_of decls)) lines ≡ map (body_line_text (names_of decls)) others →
         system ≡ other }
 {}
@@ -29,14 +33,16 @@ pub fn one_system()
 /// The canonical lines of a system are admissible lines, and stand for it. No memory. (This project's own.)
 pub fn printed_system()
     ensures { (decls : List Decl) (name : List ℕ) (lines : List BodyLine) (system : System) →
-        IsSystemOf decls name lines system → IsSystemOf decls system.name (body_lines system) system }
+        IsSystemOf decls name lines system →
+        IsSystemOf decls system.name (body_lines system) system }
 {}
 
 /// How deep an expression is: tokens are one with at most so many levels exactly where they are one with
 /// some number of levels, and its nesting is at most that: 1 without operands, else 1 plus the greatest
 /// nesting of its operands. No memory. (This project's own.)
 pub fn nesting_is_counted()
-    ensures { (decls : List Decl) (access : Access) (kind : Kind) (limit : ℕ) (tokens : List Token) →
+    ensures { (decls : List Decl) (access : Access) (kind : Kind) (limit : ℕ)
+        (tokens : List Token) →
         (fills decls access (place.Value kind limit ∷ []) tokens ≡ true) ↔
         (((levels : ℕ) × (fills decls access (place.Value kind levels ∷ []) tokens ≡ true)) ×
         (nesting tokens ≤ limit)) }

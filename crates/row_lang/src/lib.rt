@@ -7,8 +7,8 @@
 //! `Reading.antt` have the words for names of components in a line, which the text of documents shares.
 //!
 //! What a system does stands there too: `Values.antt` says what an expression is worth, `Bodies.antt` what
-//! the statements do for one entity, `Effects.antt` what a system does for all of its entities, and
-//! `Frames.antt` which systems a world may have. `meaning_laws` has what holds of every system.
+//! the statements do for one entity, and `Effects.antt` what a system does for all of its entities.
+//! `meaning_laws` has what holds of every system, in the words of world_model's `Frames.antt`.
 #![tactic(auto)]
 
 mod access_list;

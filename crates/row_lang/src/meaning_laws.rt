@@ -14,7 +14,7 @@ ghost use Rattle.world_model.specs.Ticks.{System as AnySystem};
 ghost use Rattle.world_model.specs.Worlds.{IsLawful};
 ghost use Rattle.row_lang.specs.Arithmetic.{truth};
 ghost use Rattle.row_lang.specs.Effects.{IsChecked, system_effect};
-ghost use Rattle.row_lang.specs.Frames.{AreAscendingMaps, ChangesOnlyItsRows, DependsOnItsLists, GivesAtMost, GivesAtMostOfEach, IsFitSystem};
+ghost use Rattle.world_model.specs.Frames.{AreAscendingMaps, ChangesOnlyItsRows, DependsOnItsLists, GivesAtMost, GivesAtMostOfEach, IsFitSystem};
 ghost use Rattle.row_lang.specs.Systems.{System, IsSystem, command_count};
 ghost use Rattle.row_lang.specs.Values.{same_entity};
 

@@ -1,6 +1,6 @@
 //! The places that the tokens of expressions open, put on a stack, and those of all tokens.
 
-ghost use Rattle.std.specs.Prelude.{◌≡◌, ◌≤◌, ◌+◌, ◌∷◌, [], length, reverse};
+ghost use Rattle.std.specs.Prelude.{◌≤◌, ◌+◌, ◌∷◌, [], length, reverse};
 ghost use Rattle.row_lang.specs.Places.{only_if, opened, value_opened, looked_opened, looked_field_opened, named_opened};
 ghost use Rattle.row_lang.specs.Stacks.{room, place_limit, Opens};
 
@@ -23,7 +23,8 @@ pub fn open(
     stack: &mut ArrayVec<Place, PLACE_LIMIT>,
 ) -> bool
     requires { length stack.old.items + room place ≤ place_limit }
-    ensures { Opens (opened decls.now access.now place token) (reverse stack.old.items) (reverse stack.new.items) result }
+    ensures { Opens (opened decls.now access.now place token) (reverse stack.old.items)
+        (reverse stack.new.items) result }
 {
     match place {
         Place::Statement => open_statement(token, stack),
@@ -54,7 +55,8 @@ fn open_value(
     stack: &mut ArrayVec<Place, PLACE_LIMIT>,
 ) -> bool
     requires { length stack.old.items + 3 ≤ place_limit }
-    ensures { Opens (value_opened decls.now access.now kind levels token) (reverse stack.old.items) (reverse stack.new.items) result }
+    ensures { Opens (value_opened decls.now access.now kind levels token) (reverse stack.old.items)
+        (reverse stack.new.items) result }
 {
     match token {
         Token::Word(keyword) => open_word(decls, access, kind, levels, keyword, stack),
@@ -75,7 +77,8 @@ fn open_word(
     stack: &mut ArrayVec<Place, PLACE_LIMIT>,
 ) -> bool
     requires { length stack.old.items + 3 ≤ place_limit }
-    ensures { Opens (value_opened decls.now access.now kind levels (Token.Word keyword)) (reverse stack.old.items) (reverse stack.new.items) result }
+    ensures { Opens (value_opened decls.now access.now kind levels (Token.Word keyword))
+        (reverse stack.old.items) (reverse stack.new.items) result }
 {
     let is_int = is_kind(Kind::Int, kind);
     let number = Place::Value(Kind::Int, levels);
@@ -109,7 +112,8 @@ fn open_two(
     stack: &mut ArrayVec<Place, PLACE_LIMIT>,
 ) -> bool
     requires { length stack.old.items + 2 ≤ place_limit }
-    ensures { Opens (only_if holds (first ∷ second ∷ [])) (reverse stack.old.items) (reverse stack.new.items) result }
+    ensures { Opens (only_if holds (first ∷ second ∷ [])) (reverse stack.old.items)
+        (reverse stack.new.items) result }
 {
     if holds {
         stack.push(second);
@@ -126,7 +130,8 @@ fn open_three(
     stack: &mut ArrayVec<Place, PLACE_LIMIT>,
 ) -> bool
     requires { length stack.old.items + 3 ≤ place_limit }
-    ensures { Opens (Some (first ∷ second ∷ third ∷ [])) (reverse stack.old.items) (reverse stack.new.items) result }
+    ensures { Opens (Some (first ∷ second ∷ third ∷ [])) (reverse stack.old.items)
+        (reverse stack.new.items) result }
 {
     stack.push(third);
     stack.push(second);

@@ -1,12 +1,12 @@
 //! Systems as text.
 
-ghost use Rattle.std.specs.Prelude.{◌≡◌, ◌++◌, ◌∷◌, [], ◌<◌, ℕ, List, length, map, take, OnOk, IfOk};
+ghost use Rattle.std.specs.Prelude.{◌≡◌, ◌++◌, ◌∷◌, [], length, map, take, OnOk, IfOk};
 ghost use Rattle.row_lang.specs.declared.access_list.AccessList.TheVariants as list;
 ghost use Rattle.row_lang.specs.declared.token.Token.TheVariants as token;
 ghost use Rattle.row_lang.specs.BodyLines.{Do};
 ghost use Rattle.row_lang.specs.Naming.{names_of};
 ghost use Rattle.row_lang.specs.NameLists.{spaced_names};
-ghost use Rattle.row_lang.specs.Spelling.{body_line_text, first_line_text, keyword_text, list_word, name_in, token_text, tokens_text};
+ghost use Rattle.row_lang.specs.Spelling.{body_line_text, keyword_text, list_word, name_in, token_text, tokens_text};
 ghost use Rattle.row_lang.specs.Systems.{body_text, access_lines, list_lines, system_text};
 
 use super::{AccessList, Keyword, Statement, SystemDef, Token};

@@ -100,7 +100,8 @@ impl SystemDef {
     pub(super) fn push(&mut self, statement: Statement, is_command: bool) -> Result<(), OutOfMemory>
         requires told { is_command ≡ is_command_statement statement }
         requires few { command_count self.old.statements < 2 ^ 32 - 1 }
-        ensures ok { OnOk result (self.new ≡ record self.old { statements = self.old.statements ++ statement ∷ [] }) }
+        ensures ok { OnOk result
+            (self.new ≡ record self.old { statements = self.old.statements ++ statement ∷ [] }) }
         ensures err { OnErr result (self.new ≡ self.old) }
     {
         self.statements.push(statement)?;

@@ -68,8 +68,10 @@ fn take_tokens<'a>(
     requires named { AreNamedDecls decls.now }
     requires room { HaveRoom (first ∷ []) }
     requires ended { EndsName text.now }
-    ensures ok { IfOk result (λ x. AreOnlyTokens decls.now access.now (first ∷ []) text.now x.0.items x.1.now) }
-    ensures bad { IsErrOf result LineFault.Bad → (tokens : List AnyToken) (rest : List ℕ) → AreTokensNext decls.now access.now (first ∷ []) text.now tokens rest → ⊥ }
+    ensures ok { IfOk result
+        (λ x. AreOnlyTokens decls.now access.now (first ∷ []) text.now x.0.items x.1.now) }
+    ensures bad { IsErrOf result LineFault.Bad → (tokens : List AnyToken) (rest : List ℕ) →
+        AreTokensNext decls.now access.now (first ∷ []) text.now tokens rest → ⊥ }
 {
     let mut tokens = Vec::new(alloc);
     let mut stack: ArrayVec<Place, PLACE_LIMIT> = ArrayVec::new();

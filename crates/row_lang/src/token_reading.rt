@@ -1,6 +1,6 @@
 //! One token of a statement, by the place that it is for.
 
-ghost use Rattle.std.specs.Prelude.{◌≡◌, ◌≢◌, true, ℕ, ◌<◌, length, List, IfSome, IfNone};
+ghost use Rattle.std.specs.Prelude.{◌≡◌, ◌≢◌, true, ℕ, List, IfSome, IfNone};
 ghost use Rattle.world_model.specs.declared.tokens.FieldAt.{FieldAt as AnyField};
 ghost use Rattle.row_lang.specs.declared.token.Token.{Token as AnyToken};
 ghost use Rattle.row_lang.specs.declared.token.Token.TheVariants as token;
@@ -40,10 +40,15 @@ pub fn take_token<'a>(
 // The only token that a text can be in a place. Whether it fits the place isn't told.
 fn token_in(decls: &[Decl], access: &Access, place: Place, word: &[u8]) -> Option<Token>
     requires { AreNamedDecls decls.now }
-    ensures some { IfSome result (λ token. IsDeclared decls.now token × (word.now ≡ token_text (names_of decls.now) token)) }
-    ensures once { IfSome result (λ token. (other : AnyToken) → IsDeclared decls.now other → fits decls.now access.now place other ≡ true
+    ensures some { IfSome result
+        (λ token. IsDeclared decls.now token × (word.now ≡ token_text (names_of decls.now) token)) }
+    ensures once { IfSome result
+        (λ token. (other : AnyToken) → IsDeclared decls.now other →
+        fits decls.now access.now place other ≡ true
         → word.now ≡ token_text (names_of decls.now) other → other ≡ token) }
-    ensures none { IfNone result ((other : AnyToken) → IsDeclared decls.now other → fits decls.now access.now place other ≡ true
+    ensures none { IfNone result
+        ((other : AnyToken) → IsDeclared decls.now other →
+        fits decls.now access.now place other ≡ true
         → word.now ≢ token_text (names_of decls.now) other) }
 {
     match place {
@@ -91,10 +96,15 @@ fn token_in(decls: &[Decl], access: &Access, place: Place, word: &[u8]) -> Optio
 // row. The lists, the kind and the levels stand in its clauses alone.
 fn value_in(decls: &[Decl], access: &Access, kind: Kind, levels: u32, word: &[u8]) -> Option<Token>
     requires { AreNamedDecls decls.now }
-    ensures some { IfSome result (λ token. IsDeclared decls.now token × (word.now ≡ token_text (names_of decls.now) token)) }
-    ensures once { IfSome result (λ token. (other : AnyToken) → IsDeclared decls.now other → fits decls.now access.now (place.Value kind levels) other ≡ true
+    ensures some { IfSome result
+        (λ token. IsDeclared decls.now token × (word.now ≡ token_text (names_of decls.now) token)) }
+    ensures once { IfSome result
+        (λ token. (other : AnyToken) → IsDeclared decls.now other →
+        fits decls.now access.now (place.Value kind levels) other ≡ true
         → word.now ≡ token_text (names_of decls.now) other → other ≡ token) }
-    ensures none { IfNone result ((other : AnyToken) → IsDeclared decls.now other → fits decls.now access.now (place.Value kind levels) other ≡ true
+    ensures none { IfNone result
+        ((other : AnyToken) → IsDeclared decls.now other →
+        fits decls.now access.now (place.Value kind levels) other ≡ true
         → word.now ≢ token_text (names_of decls.now) other) }
 {
     if let Some(keyword) = keyword_of(word) {
@@ -110,10 +120,14 @@ fn value_in(decls: &[Decl], access: &Access, kind: Kind, levels: u32, word: &[u8
 // The component that a word names.
 fn pool_named(decls: &[Decl], word: &[u8]) -> Option<u32>
     requires { AreNamedDecls decls.now }
-    ensures some { IfSome result (λ pool. IsDeclared decls.now (token.Pool pool) × (word.now ≡ token_text (names_of decls.now) (token.Pool pool))) }
+    ensures some { IfSome result
+        (λ pool. IsDeclared decls.now (token.Pool pool) ×
+        (word.now ≡ token_text (names_of decls.now) (token.Pool pool))) }
     ensures once { IfSome result (λ pool. (other : ℕ) → IsDeclared decls.now (token.Pool other)
         → word.now ≡ token_text (names_of decls.now) (token.Pool other) → other ≡ pool) }
-    ensures none { IfNone result ((other : ℕ) → IsDeclared decls.now (token.Pool other) → word.now ≢ token_text (names_of decls.now) (token.Pool other)) }
+    ensures none { IfNone result
+        ((other : ℕ) → IsDeclared decls.now (token.Pool other) →
+        word.now ≢ token_text (names_of decls.now) (token.Pool other)) }
 {
     let pool = read_name(word, decls)?;
     Some(pool)
@@ -122,10 +136,15 @@ fn pool_named(decls: &[Decl], word: &[u8]) -> Option<u32>
 // The field that a word names.
 fn field_named(decls: &[Decl], word: &[u8]) -> Option<FieldAt>
     requires { AreNamedDecls decls.now }
-    ensures some { IfSome result (λ at. IsDeclared decls.now (token.Field at) × (word.now ≡ token_text (names_of decls.now) (token.Field at))) }
-    ensures once { IfSome result (λ at. (other : AnyField) → IsDeclared decls.now (token.Field other)
+    ensures some { IfSome result
+        (λ at. IsDeclared decls.now (token.Field at) ×
+        (word.now ≡ token_text (names_of decls.now) (token.Field at))) }
+    ensures once { IfSome result
+        (λ at. (other : AnyField) → IsDeclared decls.now (token.Field other)
         → word.now ≡ token_text (names_of decls.now) (token.Field other) → other ≡ at) }
-    ensures none { IfNone result ((other : AnyField) → IsDeclared decls.now (token.Field other) → word.now ≢ token_text (names_of decls.now) (token.Field other)) }
+    ensures none { IfNone result
+        ((other : AnyField) → IsDeclared decls.now (token.Field other) →
+        word.now ≢ token_text (names_of decls.now) (token.Field other)) }
 {
     let at = read_field(word, decls)?;
     Some(at)

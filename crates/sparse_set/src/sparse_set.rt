@@ -1,4 +1,4 @@
-ghost use Rattle.std.specs.Prelude.{◌≡◌, ◌<◌, ◌≤◌, [], length, take, Some, IfOk, IfSome, slice_get};
+ghost use Rattle.std.specs.Prelude.{◌≡◌, ◌<◌, ◌≤◌, ◌^◌, [], length, take, Some, IfOk, IfSome, slice_get};
 ghost use Rattle.std.specs.List.Sorted.{IsPermutation};
 ghost use Rattle.entity_id.specs.PackedLists.{place_of};
 ghost use Rattle.sparse_set.specs.PackedSets.{contains, has_index, AreDistinct};
@@ -68,6 +68,7 @@ impl SparseSet {
     pub fn packed(&self) -> &[Entity]
         ensures list { result.now ≡ self.now.list }
         ensures distinct { AreDistinct self.now.list }
+        ensures few { length self.now.list < 2 ^ 32 }
     {
         &self.packed
     }

@@ -13,4 +13,5 @@ pub mod Outcomes
 pub mod Steps
 pub mod Orders
 pub mod Ticks
+pub mod Frames
 pub mod Tokens

@@ -1,6 +1,6 @@
 -- The text of a line of a system has no line end in it; and the canonical lines of a system stand for it.
-use Rattle.std.proofs.Common.{◌≡◌, ◌≢◌, ℕ, zero, suc, true, false, List, [], ◌∷◌, ◌++◌, map, codes, refl, sym, subst, arith, inl, inr}
-use Rattle.std.specs.List.{AllByRecursion, flat_map}
+use Rattle.std.proofs.Common.{◌≡◌, ℕ, zero, suc, true, List, [], ◌∷◌, map, codes, refl, sym, subst, arith}
+use Rattle.std.specs.List.{AllByRecursion}
 use Rattle.std.proofs.lemmas.Bool.{both_ways}
 use Rattle.entity_id.specs.Cuts.{Lacks}
 use Rattle.entity_id.proofs.CutLemmas.{lacks_append, lacks_by_test}

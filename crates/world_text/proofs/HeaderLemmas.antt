@@ -1,6 +1,5 @@
 -- Header lines that are added to a draft of such lines alone.
-use Rattle.std.proofs.Common.{◌≡◌, ℕ, ◌<◌, ◌≤◌, true, false, List, [], ◌∷◌, ◌++◌, get_or, refl, sym, ap, subst, ◌∙◌, arith, leb}
-use Rattle.std.specs.List.{flat_map}
+use Rattle.std.proofs.Common.{◌≡◌, ℕ, ◌≤◌, true, false, List, [], ◌∷◌, ◌++◌, get_or, sym, ap, subst, ◌∙◌, arith, leb}
 use Rattle.std.proofs.lemmas.Bool.{and_parts, leb-true}
 use Rattle.entity_id.specs.Cuts.{Lacks, IsCut}
 use Rattle.entity_id.proofs.CutLemmas.{same_cut, no_cut}
@@ -12,10 +11,10 @@ use Rattle.world_text.specs.LineKinds as line
 use Rattle.world_text.specs.Formats.{version_1}
 use Rattle.world_text.specs.Lines.{IsLine, line_text}
 use Rattle.world_text.specs.Sections.{order, is_between}
-use Rattle.world_text.specs.Meaning.{tick_in, slot_in, next_in, settled_from}
+use Rattle.world_text.specs.Meaning.{settled_from}
 use Rattle.world_text.specs.Fitting.{section_of, last_section, fits}
-use Rattle.world_text.specs.Drafts.{Stands, Refuses, TakesLine}
-use Rattle.world_text.specs.Headers.{IsHeaderLine, HeaderSoFar, header_so_far, header_in, IsHeaderWith, TakesHeaderLine, RefusesHeaderLine, KeepsOthers, IsHeaderDraft, RefusesHeaders}
+use Rattle.world_text.specs.Drafts.{Stands, TakesLine}
+use Rattle.world_text.specs.Headers.{IsHeaderLine, HeaderSoFar, header_so_far, header_in, TakesHeaderLine, RefusesHeaderLine, KeepsOthers, IsHeaderDraft, RefusesHeaders}
 use Rattle.world_text.proofs.LawfulLemmas.{version_1_is_format}
 use Rattle.world_text.proofs.LineLemmas.{line_lacks}
 use Rattle.world_text.proofs.MeaningLemmas.{order_later, order_last_section-append, no_tick_yet, no_slot_yet, no_next_yet, no_pool_yet}

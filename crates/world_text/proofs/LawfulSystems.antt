@@ -1,6 +1,6 @@
 -- The systems that lines stand for are lawful, the closed ones and the one that isn't closed, and a line that fits keeps them so.
-use Rattle.std.proofs.Common.{◌≡◌, ℕ, ◌+◌, ◌<◌, ◌≤◌, Bool, true, false, not, ◌&&◌, ◌||◌, ltb, leb, List, [], ◌∷◌, ◌++◌, length, map, refl, sym, ap, subst, ◌∙◌, arith, cond, inl, inr}
-use Rattle.std.specs.Prelude.{Option, Some, None, MatchOption, nat_lt, count_by, sum_by}
+use Rattle.std.proofs.Common.{◌≡◌, ℕ, ◌+◌, ◌<◌, ◌≤◌, Bool, true, false, not, ◌||◌, leb, List, [], ◌∷◌, ◌++◌, length, map, refl, sym, ap, subst, ◌∙◌, arith, cond, inl, inr}
+use Rattle.std.specs.Prelude.{Option, Some, None, MatchOption, nat_lt, count_by}
 use Rattle.std.specs.List.{AllByRecursion, flat_map, list_any}
 use Rattle.std.specs.Option.{option_map_or}
 use Rattle.std.specs.Str.{bytes_eq}
@@ -15,19 +15,19 @@ use Rattle.row_lang.specs.declared.token.Token.{Token}
 use Rattle.row_lang.specs.BodyLines.{BodyLine, Lists, Do, Close}
 use Rattle.row_lang.specs.Naming.{names_of}
 use Rattle.row_lang.specs.Spelling.{IsBodyLine}
-use Rattle.row_lang.specs.Systems.{System, Draft, IsDraftOf, IsSystemOf, IsSystem, begun, admits, after_line, after_lines, are_admitted, is_closed, is_command, command_count}
+use Rattle.row_lang.specs.Systems.{System, Draft, IsDraftOf, IsSystem, begun, admits, after_line, after_lines, are_admitted, is_closed, is_command, command_count}
 use Rattle.world_text.specs.declared.format.Format.{Format}
 use Rattle.world_text.specs.declared.section.Section.TheVariants as section
 use Rattle.world_text.specs.LineKinds.{Line}
 use Rattle.world_text.specs.LineKinds as line
-use Rattle.world_text.specs.Lines.{IsLine, IsSystemLine}
+use Rattle.world_text.specs.Lines.{IsLine}
 use Rattle.world_text.specs.Sections.{order, is_between}
 use Rattle.world_text.specs.Meaning.{decl_in}
 use Rattle.world_text.specs.SystemLines.{SystemsSoFar, no_systems, with_body, with_line, systems_in, commands_of, unfinished_commands, commands_so_far}
 use Rattle.world_text.specs.Fitting.{last_section, are_different, is_unfinished, may_begin, are_names_of, goes_on_system, leaves_commands_few, fits}
 use Rattle.world_text.specs.Documents.{AreLawfulSystems}
 use Rattle.world_text.proofs.MeaningLemmas.{keeps}
-use Rattle.world_text.proofs.SystemLemmas.{systems_push, systems_keep, no_systems_yet, systems_before, names_are}
+use Rattle.world_text.proofs.SystemLemmas.{systems_push, no_systems_yet, systems_before, names_are}
 
 -- ---- one line more of a system taken by itself
 

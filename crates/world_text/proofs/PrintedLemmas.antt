@@ -13,7 +13,6 @@ use Rattle.world_model.specs.declared.slot.Slot.{Slot}
 use Rattle.world_model.specs.declared.world.World.{World}
 use Rattle.world_model.specs.Slots.{is_free_at, AreLawfulSlots}
 use Rattle.world_model.specs.Worlds.{AreLawfulRows}
-use Rattle.row_lang.specs.Naming.{AreNamedDecls}
 use Rattle.row_lang.specs.Systems.{System, IsSystem}
 use Rattle.world_text.specs.declared.format.Format.{Format}
 use Rattle.world_text.specs.declared.document.Document.{Document}

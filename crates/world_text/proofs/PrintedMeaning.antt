@@ -9,7 +9,6 @@ use Rattle.world_model.specs.declared.component.Decl.{Decl}
 use Rattle.world_model.specs.declared.component.Row.{Row}
 use Rattle.world_model.specs.declared.group.GroupDecl.{GroupDecl}
 use Rattle.world_model.specs.declared.slot.Slot.{Slot}
-use Rattle.world_model.specs.declared.world.World.{World}
 use Rattle.world_model.specs.Components.{IsDecl, IsRow}
 use Rattle.world_model.specs.Components as components
 use Rattle.world_model.specs.Worlds.{IsLawful, AreLawfulRows}

@@ -1,33 +1,31 @@
 -- Printed systems: their lines are admissible behind those before them, and stand for them.
-use Rattle.std.proofs.Common.{◌≡◌, ℕ, ◌+◌, ◌<◌, ◌≤◌, Bool, true, false, not, ◌&&◌, ◌||◌, List, [], ◌∷◌, ◌++◌, length, map, refl, sym, ap, subst, ◌∙◌, arith, append_assoc, cond, inl, inr}
-use Rattle.std.specs.Prelude.{Option, Some, None, nat_lt, count_by, sum_by}
-use Rattle.std.specs.List.{AllByRecursion, flat_map, list_any, zip}
-use Rattle.std.specs.Option.{option_map_or}
+use Rattle.std.proofs.Common.{◌≡◌, ℕ, ◌+◌, ◌<◌, ◌≤◌, true, false, not, ◌||◌, List, [], ◌∷◌, ◌++◌, length, map, refl, sym, ap, ◌∙◌, arith, append_assoc}
+use Rattle.std.specs.Prelude.{None}
+use Rattle.std.specs.List.{AllByRecursion, flat_map, list_any}
 use Rattle.std.specs.Str.{bytes_eq}
 use Rattle.std.proofs.lemmas.List.{length-append, map-append, append-nil}
 use Rattle.std.proofs.lemmas.List.Sums.{sum_by-append}
 use Rattle.std.proofs.lemmas.List.Folds.{list_any-append}
 use Rattle.std.proofs.lemmas.Grind.{flat_map-append}
-use Rattle.std.proofs.lemmas.Bool.{cases_Bool, and_parts, and_from, or_parts, lt-ltb, not-true, not_from_false}
+use Rattle.std.proofs.lemmas.Bool.{and_parts, and_from, or_parts, lt-ltb, not-true, not_from_false}
 use Rattle.entity_id.proofs.ListLemmas.{all-append}
 use Rattle.world_model.specs.declared.component.Decl.{Decl}
 use Rattle.row_lang.specs.declared.access_list.AccessList.{AccessList}
 use Rattle.row_lang.specs.declared.access_list.AccessList.TheVariants as list
 use Rattle.row_lang.specs.declared.part.Part.TheVariants as part
-use Rattle.row_lang.specs.declared.token.Token.{Token}
 use Rattle.row_lang.specs.BodyLines.{BodyLine, Lists, Do, Close}
 use Rattle.row_lang.specs.Naming.{AreNamedDecls, names_of}
 use Rattle.row_lang.specs.Spelling.{IsBodyLine}
-use Rattle.row_lang.specs.Systems.{System, Draft, IsSystemOf, begun, admits, after_line, after_lines, are_admitted, is_closed, is_command, command_count, body_lines}
+use Rattle.row_lang.specs.Systems.{System, Draft, IsSystemOf, begun, admits, after_line, after_lines, are_admitted, is_closed, command_count, body_lines}
 use Rattle.world_text.specs.declared.format.Format.{Format}
 use Rattle.world_text.specs.declared.section.Section.TheVariants as section
 use Rattle.world_text.specs.LineKinds.{Line}
 use Rattle.world_text.specs.LineKinds as line
 use Rattle.world_text.specs.Lines.{IsLine}
-use Rattle.world_text.specs.Sections.{order, is_between}
+use Rattle.world_text.specs.Sections.{order}
 use Rattle.world_text.specs.Meaning.{decl_in}
-use Rattle.world_text.specs.SystemLines.{SystemsSoFar, no_systems, with_line, with_lines, systems_in, commands_of, commands_so_far}
-use Rattle.world_text.specs.Fitting.{last_section, are_different, is_unfinished, may_begin, are_names_of, goes_on_system, leaves_commands_few, fits, fit_after}
+use Rattle.world_text.specs.SystemLines.{SystemsSoFar, no_systems, with_line, with_lines, systems_in, commands_of}
+use Rattle.world_text.specs.Fitting.{last_section, are_different, may_begin, are_names_of, goes_on_system, fits, fit_after}
 use Rattle.world_text.specs.Documents.{system_lines}
 use Rattle.world_text.proofs.MeaningLemmas.{keeps, order_later, order_last_section-append, last_section_push}
 use Rattle.world_text.proofs.PrintedFits.{between, fit_append}

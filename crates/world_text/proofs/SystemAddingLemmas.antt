@@ -1,6 +1,6 @@
 -- A line of a system that is added to a draft: where it fits, and what it adds.
 use Rattle.std.proofs.Common.{◌≡◌, inl, inr, ℕ, ◌+◌, ◌<◌, ◌≤◌, Bool, true, false, not, ◌&&◌, ◌||◌, List, [], ◌∷◌, ◌++◌, refl, sym, ap, subst, ◌∙◌, arith, cond, nat_lt}
-use Rattle.std.specs.Prelude.{Option, Some, None, is_some, count_by, if◌then◌else◌}
+use Rattle.std.specs.Prelude.{Option, Some, count_by, if◌then◌else◌}
 use Rattle.std.specs.List.{flat_map}
 use Rattle.std.specs.Option.{option_map_or}
 use Rattle.std.proofs.lemmas.Bool.{cases_Bool, and_parts, and_from, lt-ltb}
@@ -12,7 +12,6 @@ use Rattle.row_lang.specs.BodyLines.{BodyLine, Lists, Do, Close}
 use Rattle.row_lang.specs.declared.added.Added.TheVariants.{More, Closed}
 use Rattle.row_lang.specs.Drafts.{TakesLine, RefusesLineWithin}
 use Rattle.row_lang.specs.Naming.{names_of}
-use Rattle.row_lang.specs.Spelling.{IsBodyLine, body_line_text}
 use Rattle.row_lang.specs.Systems.{System, is_command, command_count, admits, after_line}
 use Rattle.row_lang.specs.Systems as systems
 use Rattle.world_text.specs.declared.draft.Draft.{Draft}
@@ -24,7 +23,7 @@ use Rattle.world_text.specs.LineKinds as line
 use Rattle.world_text.specs.Sections.{is_between}
 use Rattle.world_text.specs.Meaning.{decl_in, slot_in, next_in, pools_in}
 use Rattle.world_text.specs.SystemLines.{SystemsSoFar, with_body, with_line, systems_in, commands_of, commands_so_far}
-use Rattle.world_text.specs.Fitting.{last_section, is_unfinished, are_names_of, goes_on_system, leaves_commands_few, fits}
+use Rattle.world_text.specs.Fitting.{last_section, are_names_of, goes_on_system, leaves_commands_few, fits}
 use Rattle.world_text.specs.Drafts.{Stands, systems_so_far, goes_on, Refuses, TakesBody, RefusesBody}
 use Rattle.world_text.proofs.AddingLemmas.{and_false_left, and_false_right, placed_at, kept_tick}
 use Rattle.world_text.proofs.MeaningLemmas.{keeps, groups_keep, last_section_push, pools_in-other}

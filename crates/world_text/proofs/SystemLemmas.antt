@@ -1,13 +1,11 @@
 -- What one line more changes in the systems that lines stand for.
-use Rattle.std.proofs.Common.{◌≡◌, ℕ, ◌<◌, Bool, true, false, List, [], ◌∷◌, ◌++◌, refl, sym, ap, ◌∙◌, arith, ◌&&◌}
+use Rattle.std.proofs.Common.{◌≡◌, ℕ, ◌<◌, true, List, [], ◌∷◌, ◌++◌, refl, sym, ap, ◌∙◌, arith}
 use Rattle.std.specs.List.{flat_map}
 use Rattle.std.specs.Str.{bytes_eq}
 use Rattle.std.proofs.lemmas.Bool.{and_parts, and_from}
 use Rattle.std.proofs.lemmas.Slice.Eq.{bytes_eq-Decides}
 use Rattle.world_model.specs.declared.component.Decl.{Decl}
-use Rattle.row_lang.specs.BodyLines.{BodyLine}
 use Rattle.row_lang.specs.Naming.{names_of}
-use Rattle.world_text.specs.declared.section.Section.{Section}
 use Rattle.world_text.specs.LineKinds.{Line}
 use Rattle.world_text.specs.LineKinds as line
 use Rattle.world_text.specs.Sections.{order}

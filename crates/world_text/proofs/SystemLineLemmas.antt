@@ -1,9 +1,9 @@
 -- Lines of systems at the front of a text: which lines may stand there, and what one adds.
-use Rattle.std.proofs.Common.{◌≡◌, ◌≢◌, inl, inr, ℕ, ◌+◌, ◌-◌, ◌<◌, ◌≤◌, Bool, true, false, not, ◌&&◌, List, [], ◌∷◌, ◌++◌, drop, codes, refl, sym, ap, subst, ◌∙◌, arith, cond}
-use Rattle.std.specs.Prelude.{Option, Some, None, is_some, nat_lt}
+use Rattle.std.proofs.Common.{◌≡◌, inl, inr, ℕ, Bool, true, false, not, ◌&&◌, List, [], ◌∷◌, ◌++◌, drop, codes, refl, sym, ap, subst, ◌∙◌}
+use Rattle.std.specs.Prelude.{Option, Some, None, is_some}
 use Rattle.std.specs.List.{flat_map}
 use Rattle.std.specs.Option.{option_map_or}
-use Rattle.std.proofs.lemmas.Bool.{cases_Bool, and_parts, and_left}
+use Rattle.std.proofs.lemmas.Bool.{cases_Bool, and_parts}
 use Rattle.entity_id.specs.Cuts.{IsCut, Lacks}
 use Rattle.entity_id.proofs.CutLemmas.{same_cut, no_cut}
 use Rattle.world_model.specs.declared.component.Decl.{Decl}
@@ -21,12 +21,12 @@ use Rattle.world_text.specs.declared.section.Section.{Section}
 use Rattle.world_text.specs.declared.section.Section.TheVariants as section
 use Rattle.world_text.specs.LineKinds.{Line}
 use Rattle.world_text.specs.LineKinds as line
-use Rattle.world_text.specs.Lines.{IsLine, IsSystemLine, line_text}
+use Rattle.world_text.specs.Lines.{line_text}
 use Rattle.world_text.specs.Sections.{is_between}
 use Rattle.world_text.specs.Meaning.{decl_in}
 use Rattle.world_text.specs.SystemLines.{SystemsSoFar, systems_in}
-use Rattle.world_text.specs.Fitting.{last_section, is_unfinished, are_names_of, goes_on_system, leaves_commands_few, fits}
-use Rattle.world_text.specs.Drafts.{Stands, systems_so_far, goes_on, TakesBody, RefusesBody, Refuses, RefusesLine, RefusesOthers, IsNoBody, TakesLine}
+use Rattle.world_text.specs.Fitting.{last_section, is_unfinished, are_names_of, leaves_commands_few, fits}
+use Rattle.world_text.specs.Drafts.{Stands, goes_on, TakesBody, RefusesBody, Refuses, RefusesLine, RefusesOthers, IsNoBody, TakesLine}
 use Rattle.world_text.proofs.AddingLemmas.{and_false_left, and_false_right}
 use Rattle.world_text.proofs.WordLemmas.{lacks_behind, name_lacks}
 use Rattle.world_text.proofs.BodyTextLemmas.{body_lacks, decls_names}

@@ -4,7 +4,6 @@ use Rattle.std.specs.Prelude.{◌==◌}
 use Rattle.std.specs.Fmt.{decimal}
 use Rattle.std.specs.Str.{bytes_eq}
 use Rattle.row_lang.specs.declared.access_list.AccessList.TheVariants as list
-use Rattle.row_lang.specs.declared.token.Token.{Token}
 use Rattle.row_lang.specs.BodyLines.{BodyLine, Lists, Do, Close}
 use Rattle.row_lang.specs.Spelling.{body_line_text}
 use Rattle.world_text.specs.declared.format.Format.{Format}

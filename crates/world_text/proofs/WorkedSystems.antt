@@ -1,10 +1,8 @@
 -- Worked documents with systems: what their lines stand for, where a line of a system fits, and how they are printed.
-use Rattle.std.proofs.Common.{◌≡◌, ℕ, true, false, List, [], ◌∷◌, ◌++◌, replicate, map, codes, refl}
-use Rattle.std.specs.Prelude.{Option, Some, None}
+use Rattle.std.proofs.Common.{◌≡◌, ℕ, true, false, List, [], ◌∷◌, ◌++◌, replicate, codes, refl}
+use Rattle.std.specs.Prelude.{None}
 use Rattle.std.specs.Fmt.{digits}
 use Rattle.std.specs.List.{flat_map}
-use Rattle.world_model.specs.declared.component.Decl.{Decl}
-use Rattle.world_model.specs.declared.component.Kind.TheVariants as kind
 use Rattle.world_model.specs.declared.tokens.FieldAt.{FieldAt}
 use Rattle.row_lang.specs.declared.access_list.AccessList.TheVariants as list
 use Rattle.row_lang.specs.declared.token.Keyword.TheVariants as key
@@ -12,8 +10,7 @@ use Rattle.row_lang.specs.declared.token.Token.{Token}
 use Rattle.row_lang.specs.declared.token.Token.TheVariants.{Word, Own, Field}
 use Rattle.row_lang.specs.BodyLines.{BodyLine, Lists, Do, Close}
 use Rattle.row_lang.specs.Systems.{System}
-use Rattle.world_text.specs.declared.document.Document.{Document}
-use Rattle.world_text.specs.Documents.{lines_of, system_lines}
+use Rattle.world_text.specs.Documents.{lines_of}
 use Rattle.world_text.specs.Fitting.{fits, fit_after}
 use Rattle.world_text.specs.Formats.{version_1}
 use Rattle.world_text.specs.LineKinds.{Line}

@@ -1,6 +1,6 @@
 -- Documents: which bytes stand for which world and systems, where the first bad line of other bytes is, and the one canonical text.
-use Rattle.std.specs.Prelude.{◌≡◌, ◌≢◌, ℕ, ℤ, ◌+◌, ◌≤◌, Bool, true, false, not, ◌&&◌, List, [], ◌∷◌, ◌++◌, map, length, take}
-use Rattle.std.specs.List.{flat_map, list_any, AllByRecursion, zip}
+use Rattle.std.specs.Prelude.{◌≡◌, ◌≢◌, ℕ, ℤ, ◌+◌, ◌≤◌, true, false, List, [], ◌∷◌, ◌++◌, map, length, take}
+use Rattle.std.specs.List.{flat_map, AllByRecursion, zip}
 use Rattle.std.specs.List.Sorted.{IsNonDecreasing}
 use Rattle.entity_id.specs.declared.entity.Profile.{Profile}
 use Rattle.entity_id.specs.declared.entity.Entity.{Entity}
@@ -10,9 +10,8 @@ use Rattle.world_model.specs.declared.component.Kind.{Kind}
 use Rattle.world_model.specs.declared.component.Kind.TheVariants as kind
 use Rattle.world_model.specs.declared.component.Row.{Row}
 use Rattle.world_model.specs.declared.group.GroupDecl.{GroupDecl}
-use Rattle.world_model.specs.declared.world.World.{World}
-use Rattle.world_model.specs.Components.{kinds_of, has_name}
-use Rattle.world_model.specs.Worlds.{component_limit, IsLawful}
+use Rattle.world_model.specs.Components.{kinds_of}
+use Rattle.world_model.specs.Worlds.{IsLawful}
 use Rattle.row_lang.specs.Naming.{AreNamedDecls, names_of}
 use Rattle.row_lang.specs.Systems.{System, IsSystem, body_lines}
 use Rattle.world_text.specs.declared.format.Format.{Format}
@@ -23,7 +22,6 @@ use Rattle.world_text.specs.FieldValues as value
 use Rattle.world_text.specs.LineKinds.{Line, NamedGroup}
 use Rattle.world_text.specs.LineKinds as line
 use Rattle.world_text.specs.Formats.{tick_limit, version_1}
-use Rattle.row_lang.specs.Naming.{IsNamedDecl}
 use Rattle.world_text.specs.Lines.{IsLine, line_text, text_of}
 use Rattle.row_lang.specs.NameLists.{name_at}
 use Rattle.world_text.specs.Meaning.{world_of}

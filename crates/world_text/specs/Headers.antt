@@ -1,5 +1,5 @@
 -- Header lines: those of a document's components, groups and systems, behind its first line.
-use Rattle.std.specs.Prelude.{◌≡◌, ℕ, ◌≤◌, false, true, not, List, ◌∷◌, [], ◌++◌}
+use Rattle.std.specs.Prelude.{◌≡◌, ℕ, ◌≤◌, false, true, List, ◌∷◌, [], ◌++◌}
 use Rattle.std.specs.List.{flat_map, AllByRecursion}
 use Rattle.entity_id.specs.Cuts.{Lacks}
 use Rattle.world_model.specs.declared.component.Decl.{Decl}

@@ -9,7 +9,7 @@ use Rattle.entity_id.specs.Texts.{entity_text}
 use Rattle.world_model.specs.declared.component.Decl.{Decl}
 use Rattle.world_model.specs.declared.component.Kind.{Kind}
 use Rattle.world_model.specs.declared.component.Kind.TheVariants as kind
-use Rattle.world_model.specs.Components.{IsDecl, kinds_of, is_target}
+use Rattle.world_model.specs.Components.{kinds_of, is_target}
 use Rattle.world_model.specs.Integers.{IsI64}
 use Rattle.world_model.specs.Names.{is_name}
 use Rattle.row_lang.specs.BodyLines.{BodyLine}

@@ -1,8 +1,7 @@
 -- What readers of parts of a line say.
-use Rattle.std.specs.Prelude.{◌≡◌, ◌≢◌, ℕ, ℤ, true, List, [], ◌∷◌, ◌++◌, ◌≤◌, ◌-◌, take, drop, replicate, Option, MatchOption}
+use Rattle.std.specs.Prelude.{◌≡◌, ℕ, ℤ, true, List, [], ◌∷◌, ◌++◌, ◌≤◌, ◌-◌, take, drop, replicate}
 use Rattle.std.specs.List.{flat_map, AllByRecursion}
 use Rattle.std.specs.Fmt.{decimal}
-use Rattle.std.specs.Borrow.{Bor}
 use Rattle.entity_id.specs.declared.entity.Profile.{Profile}
 use Rattle.entity_id.specs.Cuts.{Lacks}
 use Rattle.entity_id.specs.Texts.{EndsNumber}

@@ -1,7 +1,5 @@
 -- What readers of parts of a script's line say, and those of a group's line in a document.
-use Rattle.std.specs.Prelude.{◌≡◌, ◌≢◌, ◌⊎◌, ℕ, ℤ, ◌+◌, ◌<◌, ◌≤◌, Bool, true, false, ◌||◌, ◌==◌, List, [], ◌∷◌, ◌++◌, length, codes, Some, IsPermutation}
-use Rattle.std.specs.List.{AllByRecursion, list_any}
-use Rattle.std.specs.List.Sorted.{IsNonDecreasing}
+use Rattle.std.specs.Prelude.{◌≡◌, ◌⊎◌, ℕ, ℤ, ◌+◌, ◌<◌, ◌≤◌, List, [], ◌∷◌, ◌++◌, length, codes, Some}
 use Rattle.std.specs.Fmt.{decimal}
 use Rattle.entity_id.specs.declared.entity.Entity.{Entity}
 use Rattle.entity_id.specs.declared.entity.Profile.{Profile}
@@ -20,9 +18,9 @@ use Rattle.world_text.specs.declared.script.ScriptLine.TheVariants.{Run, Watch, 
 use Rattle.world_text.specs.declared.verbs.Verb.{Verb}
 use Rattle.world_text.specs.declared.verbs.Verb.TheVariants as verb
 use Rattle.world_text.specs.GroupLines.{IsGroupFirst}
-use Rattle.row_lang.specs.NameLists.{name_at, IsCalled, AreNamedOnce}
+use Rattle.row_lang.specs.NameLists.{name_at, IsCalled}
 use Rattle.row_lang.specs.FieldNames.{field_text, kind_at}
-use Rattle.row_lang.specs.Reading.{EndsName, IsPoolNext, AreNamesNext, AreSomeNext, IsPartNext, IsKeptAs}
+use Rattle.row_lang.specs.Reading.{EndsName, IsPoolNext, AreSomeNext, IsPartNext, IsKeptAs}
 use Rattle.world_text.specs.Scripts.{entry_text, row_text, field_value_text, event_word, number_limit, IsEntry}
 use Rattle.world_text.specs.Verbs.{plain_command, entity_command, entry_command, row_command, names_command}
 

@@ -4,7 +4,9 @@
 //! What a document is stands in `specs/`, as a relation on whole lists of lines: `Lines.antt` says
 //! how each line is spelled, `Fitting.antt` where a line is admissible after the lines before it, and
 //! `Documents.antt` which bytes are a document of which world, and which line is the first bad one.
-//! `GroupLines.antt` says how an owning group is spelled, in a document and in a script.
+//! `SystemLines.antt` says what the lines of systems stand for, of which `row_lang` says which there are, and
+//! `GroupLines.antt` how an owning group is spelled, in a document and in a script. `Headers.antt` says the
+//! same of the header lines alone: those of components, groups and systems.
 //! Likewise `Scripts.antt` says how the lines of a script are spelled, which texts are scripts, and which
 //! line is the first bad one, and `Playing.antt` what a script prints and leaves.
 #![tactic(auto)]

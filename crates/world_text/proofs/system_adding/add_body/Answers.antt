@@ -1,10 +1,10 @@
-use Rattle.std.proofs.Common.{◌≡◌, ◌+◌, ◌-◌, ◌≤◌, ℕ, true, false, Err, List, ◌∷◌, [], ◌++◌, refl, sym, ap, subst, ◌∙◌, arith, rules}
+use Rattle.std.proofs.Common.{◌≡◌, ◌+◌, ◌-◌, ◌≤◌, true, false, Err, List, ◌∷◌, [], ◌++◌, refl, sym, ap, subst, ◌∙◌, arith, rules}
 use Rattle.std.specs.Prelude.{Option, Some, None}
 use Rattle.world_model.specs.declared.component.Decl.{Decl}
 use Rattle.row_lang.specs.declared.fault.LineFault.TheVariants.{Bad}
 use Rattle.row_lang.specs.Drafts.{TakesLine, RefusesLineWithin}
 use Rattle.row_lang.specs.Systems.{System, Draft, is_closed, command_count}
-use Rattle.world_text.specs.SystemLines.{SystemsSoFar, commands_of, unfinished_commands}
+use Rattle.world_text.specs.SystemLines.{commands_of, unfinished_commands}
 use Rattle.world_text.proofs.SystemAddingLemmas.{takes, refuses, more_open, closed_done}
 use Rattle.world_text.proofs.SystemLineLemmas.{with_body_more, with_body_closed}
 use Rattle.world_text.proofs.system_adding.add_body.Goals as goal

@@ -1,5 +1,5 @@
-use Rattle.std.proofs.Common.{◌≡◌, ◌&&◌, true, false, not, length, refl, sym, ap, ◌∙◌, arith, rules}
-use Rattle.std.specs.Prelude.{is_some, nat_lt, Some}
+use Rattle.std.proofs.Common.{◌≡◌, true, false, refl, sym, ap, ◌∙◌, arith, rules}
+use Rattle.std.specs.Prelude.{is_some, Some}
 use Rattle.std.specs.List.{list_any}
 use Rattle.std.specs.Str.{bytes_eq}
 use Rattle.world_text.specs.LineKinds as line
@@ -11,7 +11,7 @@ use Rattle.world_text.specs.Meaning.{decl_in, slot_in, next_in}
 use Rattle.world_text.proofs.MeaningLemmas.{keeps, groups_keep, last_section_push, pools_in-other}
 use Rattle.world_text.proofs.SettledLemmas.{settled_same}
 use Rattle.world_text.proofs.SystemLemmas.{systems_push}
-use Rattle.world_text.proofs.AddingLemmas.{and_true, and_false_right, not_true, below_test, placed_at, kept_tick}
+use Rattle.world_text.proofs.AddingLemmas.{and_true, not_true, below_test, placed_at, kept_tick}
 use Rattle.world_text.proofs.system_adding.add_system.Goals as goal
 
 pub returns-clause-ok : goal.returns-clause-ok

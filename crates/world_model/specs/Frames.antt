@@ -15,9 +15,12 @@ use Rattle.world_model.specs.Groups.{has_pool, are_declared, are_distinct}
 use Rattle.world_model.specs.Orders.{IsFitting}
 use Rattle.world_model.specs.Ticks.{Maps, System}
 use Rattle.world_model.specs.Worlds.{IsLawful}
-use Rattle.row_lang.specs.Systems.{pool_limit}
 
 -- ---- lists of components
+
+-- how many components a system names at most, in all its lists
+abbrev pub pool_limit : ℕ
+pool_limit = 16
 
 -- the components of which a system has rows of its own entities
 abbrev pub own_pools : Access → List ℕ
