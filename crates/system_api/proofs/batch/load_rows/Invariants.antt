@@ -1,0 +1,6 @@
+use Rattle.std.proofs.Common.{◌≡◌, ℕ, ◌<◌, ◌+◌, length}
+use Rattle.system_api.specs.Batches.{lanes, row_at}
+use Rattle.system_api.proofs.batch.load_rows.Given as goal
+
+abbrev pub invariant-loop-lane : goal.invariant-loop-lane
+invariant-loop-lane l = (length l.column ≡ lanes) × ((k : ℕ) → k < l.lane → row_at l.column k ≡ row_at l.rows (l.from + k))

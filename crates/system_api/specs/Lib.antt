@@ -1,0 +1,9 @@
+pub mod Settling
+pub mod Emissions
+pub mod KeyedOrders
+pub mod Rewriting
+pub mod Registers
+pub mod HeldPools
+pub mod Batches
+pub mod Running
+pub mod Partings
