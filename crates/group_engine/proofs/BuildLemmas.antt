@@ -14,7 +14,9 @@ use Rattle.group_rules.specs.Families.{AreLawfulTogether, add_refusal}
 use Rattle.group_rules.specs.Refusals.{of_decl, of_family}
 use Rattle.group_engine.specs.Engine.{Groups, build_refusal}
 use Rattle.group_engine.specs.Families.{IsOrdered}
-use Rattle.group_engine.specs.Layout.{IsNaming, IsKept}
+use Rattle.group_engine.specs.declared.marking.Masks.{Masks}
+use Rattle.group_engine.specs.Layout.{IsKept}
+use Rattle.group_engine.specs.Masks.{AreMarked}
 
 parts_of : (declared formed : Bool) (r : Option FamilyRefused) → option_or (option_map of_decl (if not declared then Some NoPool else (if not formed then Some BadDecl else None))) (option_map of_family r) ≡ None → (declared ≡ true) × (formed ≡ true) × (r ≡ None)
 parts_of false formed r h = absurd (none-some refusal.NoPool (sym h))
@@ -33,15 +35,15 @@ one_more pools old new decl h named is together =
     record { few = together.few; declared = subst (AllByRecursion (λ d. are_declared pools (group_pools d) ≡ true)) (sym is) each; well_formed = together.well_formed; coexist = together.coexist }
 
 -- what is kept of the groups once a call added one, or refused it
-pub kept_after : {E : Type 0} (r : Result ℕ E) (pools : ℕ) (old new : List GroupDecl) (lens lens' order order' : List ℕ) (named named' : List Bool) (decl : GroupDecl)
-    → IsKept (record { decls = old; lens = lens; pools = pools }) order named → are_declared pools (group_pools decl) ≡ true
+pub kept_after : {E : Type 0} (r : Result ℕ E) (pools : ℕ) (old new : List GroupDecl) (lens lens' order order' : List ℕ) (masks masks' : Masks) (decl : GroupDecl)
+    → IsKept (record { decls = old; lens = lens; pools = pools }) order masks → are_declared pools (group_pools decl) ≡ true
     → OnOk r (new ≡ old ++ decl ∷ []) → OnOk r (AreLawfulTogether new) → OnOk r (IsOrdered new order') → OnOk r (length lens' ≡ length new)
-    → OnErr r (new ≡ old) → OnErr r (order' ≡ order) → OnErr r (lens' ≡ lens) → IsNaming named' new pools → IsKept (record { decls = new; lens = lens'; pools = pools }) order' named'
-kept_after (Ok number) pools old new lens lens' order order' named named' decl kept there is together ordered each same_decls same_order same_lens naming =
-    record { lawful = one_more pools old new decl kept.lawful there is together; each = each; ordered = ordered; naming = naming }
-kept_after (Err cause) pools old new lens lens' order order' named named' decl kept there is together ordered each same_decls same_order same_lens naming = record {
+    → OnErr r (new ≡ old) → OnErr r (order' ≡ order) → OnErr r (lens' ≡ lens) → AreMarked masks' new order' pools → IsKept (record { decls = new; lens = lens'; pools = pools }) order' masks'
+kept_after (Ok number) pools old new lens lens' order order' masks masks' decl kept there is together ordered each same_decls same_order same_lens marked =
+    record { lawful = one_more pools old new decl kept.lawful there is together; each = each; ordered = ordered; marked = marked }
+kept_after (Err cause) pools old new lens lens' order order' masks masks' decl kept there is together ordered each same_decls same_order same_lens marked = record {
   lawful = subst (AreLawfulGroups pools) (sym same_decls) kept.lawful;
   each = ap length same_lens ∙ kept.each ∙ sym (ap length same_decls);
   ordered = subst (λ l. IsOrdered l order') (sym same_decls) (subst (IsOrdered old) (sym same_order) kept.ordered);
-  naming = naming;
+  marked = marked;
 }

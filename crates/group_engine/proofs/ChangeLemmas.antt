@@ -18,7 +18,7 @@ use Rattle.world_model.specs.Groups.{has_pool, group_pools, packed_at}
 use Rattle.group_engine.specs.Grouped.{packed_of, matches, is_named, IsPartitioned, AreGrouped, WereGrouped, AreGroupedWithout}
 use Rattle.group_engine.specs.Engine.{owner_of}
 use Rattle.group_engine.proofs.EndLemmas.{partition_alike, passes_alike}
-use Rattle.group_engine.proofs.NamingLemmas.{own_named}
+use Rattle.group_engine.proofs.MaskLemmas.{own_named}
 use Rattle.group_engine.proofs.StepLemmas.{unnamed_passes}
 use Rattle.group_engine.proofs.UseLemmas.{keys_set_back}
 

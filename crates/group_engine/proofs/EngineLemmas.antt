@@ -16,6 +16,7 @@ use Rattle.world_model.proofs.NestedLemmas.{all_has, every}
 use Rattle.group_engine.specs.Grouped.{packed_of, AreGrouped}
 use Rattle.group_engine.specs.Engine.{Groups, decl_at, len_at, prefix_at, values_at, inner_in}
 use Rattle.group_engine.specs.Families.{IsFamily, IsOutermostFirst, IsOrdered, HasNoInner}
+use Rattle.group_engine.specs.declared.marking.Masks.{Masks}
 use Rattle.group_engine.specs.Layout.{IsKept}
 use Rattle.group_engine.proofs.LawfulLemmas.{lawful_family}
 use Rattle.group_engine.proofs.OrderLemmas.{ordered_first}
@@ -38,8 +39,8 @@ pub record IsRead (groups : Groups) (group : ℕ) (decl : GroupDecl) (count : �
   pub here : slice_get groups.decls group ≡ Some decl
   pub long : slice_get groups.lens group ≡ Some count
 
-pub as_read : (groups inside : Groups) (order : List ℕ) (named : List Bool) (group : ℕ) (decl : GroupDecl) (count : ℕ) → groups ≡ inside → IsKept inside order named → group < length groups.decls → decl ≡ get_or inside.decls group decl → count ≡ get_or inside.lens group count → IsRead groups group decl count
-as_read groups inside order named group decl count is kept low d n =
+pub as_read : (groups inside : Groups) (order : List ℕ) (masks : Masks) (group : ℕ) (decl : GroupDecl) (count : ℕ) → groups ≡ inside → IsKept inside order masks → group < length groups.decls → decl ≡ get_or inside.decls group decl → count ≡ get_or inside.lens group count → IsRead groups group decl count
+as_read groups inside order masks group decl count is kept low d n =
     subst (λ v. IsRead v group decl count) (sym is)
     (let below : group < length inside.decls = subst (λ (v : Groups). group < length v.decls) is low in
     record {
@@ -58,11 +59,11 @@ len_read groups group decl count h = get_or_from_slice_get groups.lens group cou
 pub decl_there : (groups : Groups) (group : ℕ) → group < length groups.decls → slice_get groups.decls group ≡ Some (decl_at groups group)
 decl_there groups group low = slice_get-get_or groups.decls group _ low
 
-pub len_there : (groups : Groups) (order : List ℕ) (named : List Bool) (group : ℕ) → IsKept groups order named → group < length groups.decls → slice_get groups.lens group ≡ Some (len_at groups group)
-len_there groups order named group kept low = slice_get-get_or groups.lens group 0 (let e : length groups.lens ≡ length groups.decls = kept.each in omega arith)
+pub len_there : (groups : Groups) (order : List ℕ) (masks : Masks) (group : ℕ) → IsKept groups order masks → group < length groups.decls → slice_get groups.lens group ≡ Some (len_at groups group)
+len_there groups order masks group kept low = slice_get-get_or groups.lens group 0 (let e : length groups.lens ≡ length groups.decls = kept.each in omega arith)
 
-pub there : (groups : Groups) (order : List ℕ) (named : List Bool) (group : ℕ) → IsKept groups order named → group < length groups.decls → IsRead groups group (decl_at groups group) (len_at groups group)
-there groups order named group kept low = record { here = decl_there groups group low; long = len_there groups order named group kept low }
+pub there : (groups : Groups) (order : List ℕ) (masks : Masks) (group : ℕ) → IsKept groups order masks → group < length groups.decls → IsRead groups group (decl_at groups group) (len_at groups group)
+there groups order masks group kept low = record { here = decl_there groups group low; long = len_there groups order masks group kept low }
 
 -- a pool that a group owns is one of the pools
 pub owned_below : (pools : ℕ) (decls : List GroupDecl) (group : ℕ) (decl : GroupDecl) (pool : ℕ) → AreLawfulGroups pools decls → slice_get decls group ≡ Some decl → has_pool decl.own pool ≡ true → pool < pools

@@ -6,7 +6,7 @@ pub mod EndLemmas
 pub mod PackedLemmas
 pub mod StepLemmas
 pub mod StillLemmas
-pub mod NamingLemmas
+pub mod MaskLemmas
 pub mod SortLemmas
 pub mod UseLemmas
 pub mod FillLemmas
@@ -17,3 +17,5 @@ pub mod EngineLemmas
 pub mod ChangeLemmas
 pub mod ClearLemmas
 pub mod TestLemmas
+pub mod PlaceLemmas
+pub mod SkipLemmas

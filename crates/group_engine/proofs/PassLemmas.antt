@@ -137,6 +137,31 @@ module _ (base : List (List Entity)) (e : Entity) (p : ℕ) (held : Bool) (order
           | outer_to around ↦ inner around (ap (λ b. cond b (matches_if base e p (not held) c) (stays_in base e p held c)) (next ∙ ordered.inner_after i g h a c at here there around differs) ∙ not_after _ _ (outer_fails c a (in_if base e p held) around both.1))
         ]
 
+    -- a group that isn't entered, or isn't left, is as before
+    pub passed_over : comes_in base e p held a ≡ false → (h : ℕ) (c : GroupDecl) → slice_get decls h ≡ Some c → entering (i + 1) h c ≡ entering i h c
+    passed_over out h c there = elim (cases_eq h g) [
+      | inl one ↦
+          let c_is : a ≡ c = same_Some a c (sym here ∙ ap (slice_get decls) (sym one) ∙ there) in
+          ap (λ k. entering (i + 1) k c) one ∙ ap (entering (i + 1) g) (sym c_is)
+          ∙ ap (λ b. cond b (matches_if base e p held a) (stays_in base e p held a)) (next_itself order i g at)
+          ∙ sym (no_arrival _ _ out)
+          ∙ sym (ap (λ b. cond b (matches_if base e p held a) (stays_in base e p held a)) (ordered.once i g at))
+          ∙ ap (entering i g) c_is ∙ ap (λ k. entering i k c) (sym one)
+      | inr differs ↦ ap (λ b. cond b (matches_if base e p held c) (stays_in base e p held c)) (next_other order i g h at differs)
+    ]
+
+    pub left_alone : goes_out base e p held a ≡ false → (h : ℕ) (c : GroupDecl) → slice_get decls h ≡ Some c → leaving i h c ≡ leaving (i + 1) h c
+    left_alone within h c there = elim (cases_eq h g) [
+      | inl one ↦
+          let c_is : a ≡ c = same_Some a c (sym here ∙ ap (slice_get decls) (sym one) ∙ there) in
+          ap (λ k. leaving i k c) one ∙ ap (leaving i g) (sym c_is)
+          ∙ ap (λ b. cond b (matches_if base e p (not held) a) (stays_in base e p held a)) (ordered.once i g at)
+          ∙ no_departure _ _ within
+          ∙ sym (ap (λ b. cond b (matches_if base e p (not held) a) (stays_in base e p held a)) (next_itself order i g at))
+          ∙ ap (leaving (i + 1) g) c_is ∙ ap (λ k. leaving (i + 1) k c) (sym one)
+      | inr differs ↦ sym (ap (λ b. cond b (matches_if base e p (not held) c) (stays_in base e p held c)) (next_other order i g h at differs))
+    ]
+
     module _ (lens : List ℕ) (now new : List (List Entity)) (n : ℕ) (long : slice_get lens g ≡ Some n) (same : HaveSame base now) where
       unset : set lens g n ≡ lens
       unset = equal_by_place _ _ (λ k. elim (cases_eq k g) [
@@ -160,16 +185,7 @@ module _ (base : List (List Entity)) (e : Entity) (p : ℕ) (held : Bool) (order
                 subst (λ k. AreMixed decls (set lens g k) base new e (entering (i + 1))) (sym as_long)
                 (subst (λ l. AreMixed decls l base new e (entering (i + 1))) (sym unset)
                 (subst (λ l. AreMixed decls lens base l e (entering (i + 1))) (sym still)
-                (mixed_alike decls lens base now e (entering i) (entering (i + 1)) mixed (λ h c there. elim (cases_eq h g) [
-                  | inl one ↦
-                      let c_is : a ≡ c = same_Some a c (sym here ∙ ap (slice_get decls) (sym one) ∙ there) in
-                      ap (λ k. entering (i + 1) k c) one ∙ ap (entering (i + 1) g) (sym c_is)
-                      ∙ ap (λ b. cond b (matches_if base e p held a) (stays_in base e p held a)) (next_itself order i g at)
-                      ∙ sym (no_arrival _ _ (sym before ∙ is))
-                      ∙ sym (ap (λ b. cond b (matches_if base e p held a) (stays_in base e p held a)) (ordered.once i g at))
-                      ∙ ap (entering i g) c_is ∙ ap (λ k. entering i k c) (sym one)
-                  | inr differs ↦ ap (λ b. cond b (matches_if base e p held c) (stays_in base e p held c)) (next_other order i g h at differs)
-                ]))))
+                (mixed_alike decls lens base now e (entering i) (entering (i + 1)) mixed (passed_over (sym before ∙ is)))))
           ]
 
       pub left_next : (m : ℕ) → AreMixed decls lens base now e (leaving (i + 1)) → Goes (goes_out now e p held a) a.own e n m now new → AreMixed decls (set lens g m) base new e (leaving i)
@@ -187,16 +203,7 @@ module _ (base : List (List Entity)) (e : Entity) (p : ℕ) (held : Bool) (order
                 subst (λ k. AreMixed decls (set lens g k) base new e (leaving i)) (sym as_long)
                 (subst (λ l. AreMixed decls l base new e (leaving i)) (sym unset)
                 (subst (λ l. AreMixed decls lens base l e (leaving i)) (sym still)
-                (mixed_alike decls lens base now e (leaving (i + 1)) (leaving i) mixed (λ h c there. elim (cases_eq h g) [
-                  | inl one ↦
-                      let c_is : a ≡ c = same_Some a c (sym here ∙ ap (slice_get decls) (sym one) ∙ there) in
-                      ap (λ k. leaving i k c) one ∙ ap (leaving i g) (sym c_is)
-                      ∙ ap (λ b. cond b (matches_if base e p (not held) a) (stays_in base e p held a)) (ordered.once i g at)
-                      ∙ no_departure _ _ (sym before ∙ is)
-                      ∙ sym (ap (λ b. cond b (matches_if base e p (not held) a) (stays_in base e p held a)) (next_itself order i g at))
-                      ∙ ap (leaving (i + 1) g) c_is ∙ ap (λ k. leaving (i + 1) k c) (sym one)
-                  | inr differs ↦ sym (ap (λ b. cond b (matches_if base e p (not held) c) (stays_in base e p held c)) (next_other order i g h at differs))
-                ]))))
+                (mixed_alike decls lens base now e (leaving (i + 1)) (leaving i) mixed (left_alone (sym before ∙ is)))))
           ]
 
       -- the pools are ready for it

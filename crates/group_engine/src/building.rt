@@ -1,15 +1,16 @@
 //! A group added to a family.
 
-ghost use Rattle.std.specs.Prelude.{◌≡◌, ℕ, ◌+◌, ◌*◌, ◌<◌, ◌≤◌, ◌++◌, ◌∷◌, [], length, false, slice_index_or, slice_get, Some, None, IsTrue, IfOk, OnOk, OnErr};
+ghost use Rattle.std.specs.Prelude.{◌≡◌, ℕ, ◌+◌, ◌*◌, ◌^◌, ◌<◌, ◌≤◌, ◌++◌, ◌∷◌, [], length, false, slice_index_or, slice_get, Some, None, IsTrue, IfOk, OnOk, OnErr};
+ghost use Rattle.std.specs.List.{AllByRecursion};
 ghost use Rattle.world_model.specs.declared.group.GroupDecl.{GroupDecl};
 ghost use Rattle.world_model.specs.Groups.{has_pool, group_pools, are_declared, is_inner, is_well_formed, packed_at};
 ghost use Rattle.group_rules.specs.Families.{AreLawfulTogether, same_in, add_refusal};
 ghost use Rattle.group_engine.specs.Grouped.{packed_of, cores_of, AreGrouped, AreStill};
 ghost use Rattle.group_engine.specs.Families.{IsOrdered};
-ghost use Rattle.group_engine.specs.Layout.{IsNaming};
+ghost use Rattle.group_engine.specs.Masks.{AreMarked};
 
 use crate::filling::fill;
-use crate::naming::note_pools;
+use crate::marking::Masks;
 use entity_id::OutOfMemory;
 use group_rules::{Family, is_inner};
 use sparse_set::Steps;
@@ -41,7 +42,7 @@ pub fn add_group<T: Copy, G: Ledger>(
     family: &mut Family,
     order: &mut Vec<u32>,
     lens: &mut Vec<u32>,
-    named: &mut Vec<bool>,
+    masks: &mut Masks,
     decl: GroupDecl,
     pools: &mut [Storage<T>],
     steps: &mut Steps<G>,
@@ -52,14 +53,17 @@ pub fn add_group<T: Copy, G: Ledger>(
     requires order { IsOrdered family.old order.old.items }
     requires each { length lens.old.items ≡ length family.old }
     requires declared { IsTrue (are_declared (length pools.old) (group_pools decl)) }
-    requires naming { IsNaming named.old.items family.old (length pools.old) }
+    requires all_declared { AllByRecursion (λ other. IsTrue
+        (are_declared (length pools.old) (group_pools other))) family.old }
+    requires many { length pools.old < 2 ^ 32 }
+    requires marked { AreMarked masks.old family.old order.old.items (length pools.old) }
     requires grouped { AreGrouped family.old lens.old.items (packed_of pools.old) }
     ensures ok { IfOk result (λ number. number ≡ length family.old) }
     ensures family { OnOk result (family.new ≡ family.old ++ decl ∷ []) }
     ensures lawful { OnOk result (AreLawfulTogether family.new) }
     ensures order { OnOk result (IsOrdered family.new order.new.items) }
     ensures each { OnOk result (length lens.new.items ≡ length family.new) }
-    ensures naming { IsNaming named.new.items family.new (length pools.old) }
+    ensures marked { AreMarked masks.new family.new order.new.items (length pools.old) }
     ensures grouped { OnOk result (AreGrouped family.new lens.new.items (packed_of pools.new)) }
     ensures still { AreStill (has_pool decl.own) (packed_of pools.old) (packed_of pools.new) }
     ensures cores { cores_of pools.new ≡ cores_of pools.old }
@@ -77,15 +81,12 @@ pub fn add_group<T: Copy, G: Ledger>(
     if lens.reserve(1).is_err() {
         return Err(OutOfMemory);
     }
-    if named.resize(pools.len(), false).is_err() {
-        return Err(OutOfMemory);
-    }
+    masks.make_places(pools.len())?;
     let place = place_for(family.as_slice(), order, &decl);
     let number = family.add_new(decl)?;
-    let added = family.decl(number);
-    note_pools(added, named);
-    let count = fill(added, pools, steps);
+    let count = fill(family.decl(number), pools, steps);
     let _ = order.insert(place, number);
     let _ = lens.push(count);
+    masks.mark(family.as_slice(), order);
     Ok(number)
 }

@@ -5,6 +5,7 @@ ghost use Rattle.entity_id.specs.Matching.{is_in};
 ghost use Rattle.world_model.specs.declared.group.GroupDecl.{GroupDecl};
 ghost use Rattle.group_engine.specs.Grouped.{packed_of, cores_of, naming_cost, AreGrouped, WereGrouped, AreGroupedWithout, AreStill, moves};
 ghost use Rattle.group_engine.specs.Families.{IsFamily, IsOutermostFirst};
+ghost use Rattle.group_engine.specs.Masks.{may_enter, IsMask};
 ghost use Rattle.group_engine.specs.Moving.{AreMixed, matches_if, HaveSame};
 
 use crate::passes::{enter_all, leave_all};
@@ -15,10 +16,12 @@ use storage::Storage;
 use world_model::GroupDecl;
 
 // Leaves the groups that the identifier no longer matches, from the innermost out, and enters those
-// that it matches now, from the outermost in.
+// that it matches now, from the outermost in. Only groups that the change concerns are tried.
 fn update<T: Copy, G: Ledger>(
     decls: &[GroupDecl],
     order: &[u32],
+    entering: u32,
+    leaving: u32,
     lens: &mut [u32],
     pools: &mut [Storage<T>],
     entity: Entity,
@@ -28,6 +31,8 @@ fn update<T: Copy, G: Ledger>(
 )
     requires family { IsFamily decls.now }
     requires order { IsOutermostFirst decls.now order.now }
+    requires entering { IsMask entering decls.now order.now (may_enter pool held) }
+    requires leaving { IsMask leaving decls.now order.now (may_enter pool (not held)) }
     requires each { length lens.old ≡ length decls.now }
     requires here { IsTrue (is_in (packed_of pools.old) entity pool) }
     requires mixed { AreMixed decls.now lens.old (packed_of pools.old) (packed_of pools.old) entity
@@ -40,14 +45,20 @@ fn update<T: Copy, G: Ledger>(
     ensures each { length lens.new ≡ length lens.old }
     ensures steps { steps.new ≤ steps.old + naming_cost decls.now pool }
 {
-    leave_all(decls, order, lens, pools, entity, pool, held, steps);
-    enter_all(decls, order, lens, pools, entity, pool, held, steps);
+    leave_all(
+        decls, order, leaving, lens, pools, entity, pool, held, steps,
+    );
+    enter_all(
+        decls, order, entering, lens, pools, entity, pool, held, steps,
+    );
 }
 
 // After an identifier was appended to a pool.
 pub fn after_add<T: Copy, G: Ledger>(
     decls: &[GroupDecl],
     order: &[u32],
+    wanting: u32,
+    excluding: u32,
     lens: &mut [u32],
     pools: &mut [Storage<T>],
     entity: Entity,
@@ -56,6 +67,8 @@ pub fn after_add<T: Copy, G: Ledger>(
 )
     requires family { IsFamily decls.now }
     requires order { IsOutermostFirst decls.now order.now }
+    requires wanting { IsMask wanting decls.now order.now (may_enter pool true) }
+    requires excluding { IsMask excluding decls.now order.now (may_enter pool false) }
     requires each { length lens.old ≡ length decls.now }
     requires grouped { WereGrouped decls.now lens.old (packed_of pools.old) entity pool }
     ensures grouped { AreGrouped decls.now lens.new (packed_of pools.new) }
@@ -64,13 +77,17 @@ pub fn after_add<T: Copy, G: Ledger>(
     ensures each { length lens.new ≡ length lens.old }
     ensures steps { steps.new ≤ steps.old + naming_cost decls.now pool }
 {
-    update(decls, order, lens, pools, entity, pool, true, steps);
+    update(
+        decls, order, wanting, excluding, lens, pools, entity, pool, true, steps,
+    );
 }
 
 // Before an identifier is erased from a pool.
 pub fn before_remove<T: Copy, G: Ledger>(
     decls: &[GroupDecl],
     order: &[u32],
+    wanting: u32,
+    excluding: u32,
     lens: &mut [u32],
     pools: &mut [Storage<T>],
     entity: Entity,
@@ -79,6 +96,8 @@ pub fn before_remove<T: Copy, G: Ledger>(
 )
     requires family { IsFamily decls.now }
     requires order { IsOutermostFirst decls.now order.now }
+    requires wanting { IsMask wanting decls.now order.now (may_enter pool true) }
+    requires excluding { IsMask excluding decls.now order.now (may_enter pool false) }
     requires each { length lens.old ≡ length decls.now }
     requires here { IsTrue (is_in (packed_of pools.old) entity pool) }
     requires grouped { AreGrouped decls.now lens.old (packed_of pools.old) }
@@ -88,6 +107,8 @@ pub fn before_remove<T: Copy, G: Ledger>(
     ensures each { length lens.new ≡ length lens.old }
     ensures steps { steps.new ≤ steps.old + naming_cost decls.now pool }
 {
-    update(decls, order, lens, pools, entity, pool, false, steps);
+    update(
+        decls, order, excluding, wanting, lens, pools, entity, pool, false, steps,
+    );
     let _distinct = pools[pool as usize].index();
 }

@@ -8,6 +8,7 @@ mod changes;
 mod clearing;
 mod sorting;
 
+use crate::marking::Masks;
 use crate::{searching, walking};
 use entity_id::Entity;
 use group_rules::Family;
@@ -27,9 +28,8 @@ pub struct GroupEngine {
     lens: Vec<u32>,
     // The groups' numbers: an outer group before those inner to it, so that one pass enters them.
     order: Vec<u32>,
-    // For each pool whether a group names it, so that a change of another pool costs one test; empty
-    // before the first group.
-    named: Vec<bool>,
+    // Which groups a change of each pool concerns; empty before the first group.
+    masks: Masks,
     // How many pools there are.
     pools: u32,
 }
@@ -43,7 +43,7 @@ impl Model for GroupEngine {
     ghost view = { λ a. record { decls = a.family; lens = a.lens.items; pools = a.pools } };
 
     ghost invariant = { λ a. IsKept
-        (record { decls = a.family; lens = a.lens.items; pools = a.pools }) a.order.items a.named.items };
+        (record { decls = a.family; lens = a.lens.items; pools = a.pools }) a.order.items a.masks };
 }
 
 impl GroupEngine {
@@ -57,7 +57,10 @@ impl GroupEngine {
             family: Family::new(alloc),
             lens: Vec::new(alloc),
             order: Vec::new(alloc),
-            named: Vec::new(alloc),
+            masks: Masks {
+                wanting: Vec::new(alloc),
+                excluding: Vec::new(alloc),
+            },
             pools,
         }
     }
@@ -106,10 +109,7 @@ impl GroupEngine {
     pub fn names(&self, pool: u32) -> bool
         ensures { result ≡ is_named self.now.decls pool }
     {
-        match self.named.get(pool as usize) {
-            Some(named) => *named,
-            None => false,
-        }
+        self.masks.wanting_at(pool) != 0 || self.masks.excluding_at(pool) != 0
     }
 
     /// The members of a group below [`GroupEngine::len`], in the common order of its owned pools. No

@@ -8,9 +8,11 @@ ghost use Rattle.world_model.specs.declared.group.GroupDecl.{GroupDecl};
 ghost use Rattle.world_model.specs.Groups.{has_pool, packed_at};
 ghost use Rattle.group_engine.specs.Grouped.{packed_of, cores_of, cost_of, AreStill, moves};
 ghost use Rattle.group_engine.specs.Families.{IsFamily, IsOutermostFirst};
+ghost use Rattle.group_engine.specs.Masks.{may_enter, IsMask};
 ghost use Rattle.group_engine.specs.Moving.{IsReady, AreMixed, matches_if, stays_in, comes_in, goes_out, HaveSame, Comes, Goes, cost_in};
 
 use crate::moving::bring_in_all;
+use crate::places::{next_place, past_last};
 use crate::testing::{comes_in, goes_out};
 use entity_id::Entity;
 use sparse_set::Steps;
@@ -28,6 +30,7 @@ pub fn enter_if<T: Copy, G: Ledger>(
     held: bool,
     steps: &mut Steps<G>,
 ) -> u32
+    requires concerned { IsTrue (may_enter pool held decl.now) }
     requires some { 0 < length decl.now.own }
     requires distinct { AreDistinctBy (λ (other : ℕ). other) decl.now.own }
     requires ready { IsTrue (comes_in (packed_of pools.old) entity pool held decl.now) →
@@ -49,9 +52,11 @@ pub fn enter_if<T: Copy, G: Ledger>(
     count + 1
 }
 
+// Enters the groups that the identifier matches now; only those of the mask may be entered.
 pub fn enter_all<T: Copy, G: Ledger>(
     decls: &[GroupDecl],
     order: &[u32],
+    mask: u32,
     lens: &mut [u32],
     pools: &mut [Storage<T>],
     entity: Entity,
@@ -61,6 +66,7 @@ pub fn enter_all<T: Copy, G: Ledger>(
 )
     requires family { IsFamily decls.now }
     requires order { IsOutermostFirst decls.now order.now }
+    requires mask { IsMask mask decls.now order.now (may_enter pool held) }
     requires each { length lens.old ≡ length decls.now }
     requires here { IsTrue (is_in (packed_of pools.old) entity pool) }
     requires mixed { AreMixed decls.now lens.old (packed_of pools.old) (packed_of pools.old) entity
@@ -74,9 +80,11 @@ pub fn enter_all<T: Copy, G: Ledger>(
     ensures steps { steps.new ≤ steps.old + sum_by
         (cost_in decls.now (comes_in (packed_of pools.old) entity pool held)) order.now }
 {
-    for i in 0..order.len() {
-        let group = order[i] as usize;
+    let mut place = next_place(mask, 0);
+    while place < order.len() {
+        let group = order[place] as usize;
         lens[group] = enter_if(&decls[group], lens[group], pools, entity, pool, held, steps);
+        place = next_place(mask, place + 1);
     }
 }
 
@@ -90,6 +98,7 @@ fn leave_if<T: Copy, G: Ledger>(
     held: bool,
     steps: &mut Steps<G>,
 ) -> u32
+    requires concerned { IsTrue (may_enter pool (not held) decl.now) }
     requires distinct { AreDistinctBy (λ (other : ℕ). other) decl.now.own }
     requires some { IsTrue (goes_out (packed_of pools.old) entity pool held decl.now) → 0 < count }
     requires ready { IsTrue (goes_out (packed_of pools.old) entity pool held decl.now) →
@@ -108,9 +117,11 @@ fn leave_if<T: Copy, G: Ledger>(
     count - 1
 }
 
+// Leaves the groups that it no longer matches; only those of the mask may be left.
 pub fn leave_all<T: Copy, G: Ledger>(
     decls: &[GroupDecl],
     order: &[u32],
+    mask: u32,
     lens: &mut [u32],
     pools: &mut [Storage<T>],
     entity: Entity,
@@ -120,6 +131,7 @@ pub fn leave_all<T: Copy, G: Ledger>(
 )
     requires family { IsFamily decls.now }
     requires order { IsOutermostFirst decls.now order.now }
+    requires mask { IsMask mask decls.now order.now (may_enter pool (not held)) }
     requires each { length lens.old ≡ length decls.now }
     requires here { IsTrue (is_in (packed_of pools.old) entity pool) }
     requires mixed { AreMixed decls.now lens.old (packed_of pools.old) (packed_of pools.old) entity
@@ -133,10 +145,11 @@ pub fn leave_all<T: Copy, G: Ledger>(
     ensures steps { steps.new ≤ steps.old + sum_by
         (cost_in decls.now (goes_out (packed_of pools.old) entity pool held)) order.now }
 {
-    let mut left = order.len();
+    let mut left = past_last(mask, order.len());
     while left > 0 {
-        left -= 1;
-        let group = order[left] as usize;
+        let place = left - 1;
+        let group = order[place] as usize;
         lens[group] = leave_if(&decls[group], lens[group], pools, entity, pool, held, steps);
+        left = past_last(mask, place);
     }
 }

@@ -1,8 +1,9 @@
 //! Whether an identifier matches a group, were it in a pool or not.
 
-ghost use Rattle.std.specs.Prelude.{◌≡◌, ◌++◌};
+ghost use Rattle.std.specs.Prelude.{◌≡◌, not, IsTrue};
 ghost use Rattle.std.specs.List.{list_any, list_all};
 ghost use Rattle.group_engine.specs.Grouped.{packed_of};
+ghost use Rattle.group_engine.specs.Masks.{may_enter};
 ghost use Rattle.group_engine.specs.Moving.{in_if, matches_if, comes_in, goes_out};
 ghost use Rattle.world_model.specs.Groups.{has_pool};
 
@@ -71,17 +72,20 @@ pub fn has_pool(pools: &[u32], pool: u32) -> bool
     pools.iter().any(|other| *other == pool)
 }
 
-// Whether a group owns or observes a pool.
-fn wants(decl: &GroupDecl, pool: u32) -> bool
-    ensures { result ≡ has_pool (decl.now.own ++ decl.now.get) pool }
+// Whether a group may be entered by an identifier that comes into a pool, or by one that goes.
+pub fn may_enter(decl: &GroupDecl, pool: u32, held: bool) -> bool
+    ensures { result ≡ may_enter pool held decl.now }
 {
-    has_pool(decl.own.as_slice(), pool) || has_pool(decl.get.as_slice(), pool)
+    if held {
+        has_pool(decl.own.as_slice(), pool) || has_pool(decl.get.as_slice(), pool)
+    } else {
+        has_pool(decl.without.as_slice(), pool)
+    }
 }
 
-// Whether an identifier is in a group after and not before. Only one of the two is ever looked up: without
-// a pool that the group wants the identifier isn't in it, and with one that it excludes neither. A group
-// that doesn't name the pool needs no look-up.
-#[tactic(auto, using(crate::proofs::TestLemmas::comes_wanted, crate::proofs::TestLemmas::comes_unwanted))]
+// Whether an identifier is in a group after and not before. Before it wasn't in one that may be entered, so
+// only what is after is looked up.
+#[tactic(auto, using(crate::proofs::TestLemmas::comes_matched))]
 pub fn comes_in<T: Copy>(
     decl: &GroupDecl,
     pools: &[Storage<T>],
@@ -89,15 +93,10 @@ pub fn comes_in<T: Copy>(
     pool: u32,
     held: bool,
 ) -> bool
+    requires { IsTrue (may_enter pool held decl.now) }
     ensures { result ≡ comes_in (packed_of pools.now) entity pool held decl.now }
 {
-    if wants(decl, pool) {
-        held && matches_if(decl, pools, entity, pool, true)
-    } else {
-        !held
-            && has_pool(decl.without.as_slice(), pool)
-            && matches_if(decl, pools, entity, pool, false)
-    }
+    matches_if(decl, pools, entity, pool, held)
 }
 
 // Whether it is in a group before and not after.
@@ -109,6 +108,7 @@ pub fn goes_out<T: Copy>(
     pool: u32,
     held: bool,
 ) -> bool
+    requires { IsTrue (may_enter pool (not held) decl.now) }
     ensures { result ≡ goes_out (packed_of pools.now) entity pool held decl.now }
 {
     comes_in(decl, pools, entity, pool, !held)

@@ -72,7 +72,7 @@ impl GroupEngine {
             &mut self.family,
             &mut self.order,
             &mut self.lens,
-            &mut self.named,
+            &mut self.masks,
             decl,
             pools,
             steps,

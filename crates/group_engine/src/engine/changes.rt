@@ -40,6 +40,8 @@ impl GroupEngine {
         changes::after_add(
             self.family.as_slice(),
             &self.order,
+            self.masks.wanting_at(pool),
+            self.masks.excluding_at(pool),
             &mut self.lens,
             pools,
             entity,
@@ -77,6 +79,8 @@ impl GroupEngine {
         changes::before_remove(
             self.family.as_slice(),
             &self.order,
+            self.masks.wanting_at(pool),
+            self.masks.excluding_at(pool),
             &mut self.lens,
             pools,
             entity,

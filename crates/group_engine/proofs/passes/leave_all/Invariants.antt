@@ -1,4 +1,5 @@
-use Rattle.std.proofs.Common.{◌≡◌, ◌+◌, ◌≤◌, drop, length}
+use Rattle.std.proofs.Common.{◌≡◌, ◌+◌, ◌-◌, ◌<◌, ◌≤◌, drop, length}
+use Rattle.std.specs.Int.{bit_at}
 use Rattle.std.specs.List.{sum_by}
 use Rattle.group_engine.specs.Grouped.{packed_of, cores_of, AreStill, moves}
 use Rattle.group_engine.specs.Moving.{AreMixed, HaveSame, goes_out, cost_in}
@@ -8,6 +9,7 @@ use Rattle.group_engine.proofs.passes.leave_all.Given as goal
 abbrev pub invariant-loop-left : goal.invariant-loop-left
 invariant-loop-left g l = record {
   low : l.left ≤ length l.order;
+  set : 0 < l.left → bit_at l.mask (l.left - 1) ≡ 1;
   mixed : AreMixed l.decls l.lens (packed_of l.fn.pools) (packed_of l.pools) l.entity (leaving (packed_of l.fn.pools) l.entity l.pool l.held l.order l.left);
   same : HaveSame (packed_of l.fn.pools) (packed_of l.pools);
   still : AreStill (moves l.decls l.pool) (packed_of l.fn.pools) (packed_of l.pools);
