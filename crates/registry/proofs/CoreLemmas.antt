@@ -10,7 +10,8 @@ use Rattle.world_model.specs.declared.component.Row.{Row}
 use Rattle.group_engine.specs.Engine.{Groups}
 use Rattle.group_engine.specs.Grouped.{Core, packed_of, core_of, cores_of, AreGrouped}
 use Rattle.group_engine.proofs.UseLemmas.{written_back}
-use Rattle.registry.specs.Layout.{maps_of, HaveRoom, KeepGroups}
+use Rattle.registry.specs.Held.{PoolRoom}
+use Rattle.registry.specs.Layout.{maps_of, rooms_of, HaveRoom, KeepGroups}
 
 maps_by_core : (pools : List (Stored Row)) → maps_of pools ≡ map (λ (c : Core Row). c.map) (cores_of pools)
 maps_by_core [] = refl
@@ -19,6 +20,14 @@ maps_by_core (p ∷ pools) = ap (λ rest. (core_of p).map ∷ rest) (maps_by_cor
 -- the maps stay
 pub core_maps : (new old : List (Stored Row)) → cores_of new ≡ cores_of old → maps_of new ≡ maps_of old
 core_maps new old same = maps_by_core new ∙ ap (map (λ (c : Core Row). c.map)) same ∙ sym (maps_by_core old)
+
+rooms_by_core : (pools : List (Stored Row)) → rooms_of pools ≡ map (λ (c : Core Row). record { spare = c.spare; index_bound = c.bound }) (cores_of pools)
+rooms_by_core [] = refl
+rooms_by_core (p ∷ pools) = ap (λ (rest : List PoolRoom). record { spare = p.spare; index_bound = p.index_bound } ∷ rest) (rooms_by_core pools)
+
+-- and their room
+pub core_rooms : (new old : List (Stored Row)) → cores_of new ≡ cores_of old → rooms_of new ≡ rooms_of old
+core_rooms new old same = rooms_by_core new ∙ ap (map (λ (c : Core Row). record { spare = c.spare; index_bound = c.bound })) same ∙ sym (rooms_by_core old)
 
 -- and how many pools there are
 pub core_count : (new old : List (Stored Row)) → cores_of new ≡ cores_of old → length new ≡ length old

@@ -18,11 +18,11 @@ use Rattle.world_model.specs.declared.group.GroupDecl.{GroupDecl}
 use Rattle.world_model.specs.declared.world.World.{World}
 use Rattle.world_model.specs.Worlds.{IsLawful, empty_world}
 use Rattle.registry.specs.declared.parts.Parts.{Parts}
-use Rattle.registry.specs.Held.{unheard}
-use Rattle.registry.specs.Layout.{maps_of, pairs_of, world_of, held_of, HaveRoom, IsKept, AreMadeOf}
+use Rattle.registry.specs.Held.{no_room, unheard}
+use Rattle.registry.specs.Layout.{maps_of, pairs_of, rooms_of, world_of, held_of, HaveRoom, IsKept, AreMadeOf}
 use Rattle.registry.specs.Packing.{is_owned}
 use Rattle.world_model.specs.Contents.{keys_of}
-use Rattle.registry.proofs.CoreLemmas.{core_maps}
+use Rattle.registry.proofs.CoreLemmas.{core_maps, core_rooms}
 use Rattle.registry.proofs.DoneLemmas.{length_all_zip}
 use Rattle.registry.proofs.MapListLemmas.{map_of-ascending, pools_ascend}
 
@@ -72,8 +72,9 @@ no_groups decls lens packed none = record { each = λ group decl count at _. abs
 -- what was made of a lawful world is kept, and is that world with nobody who listens
 pub fresh : {L : Type 0} (parts : Parts L) (decls : List Decl) (slots : SlotLists) (pools : List (Stored Row)) (groups : Groups) (limit : ℕ) (world : World) → AreMadeOf parts slots.profile decls slots pools groups → slots.limit ≡ limit
     → record { profile = slots.profile; decls = decls; groups = groups.decls; tick = 0; slots = slots.slots; free = slots.free; pools = maps_of pools } ≡ world → IsLawful limit world
-    → groups.pools ≡ length decls → AreGrouped groups.decls groups.lens (packed_of pools) → IsKept parts × (held_of parts ≡ unheard limit world (packed_of pools))
-fresh parts decls slots pools groups limit world made limit_is is lawful group_pools grouped =
+    → groups.pools ≡ length decls → AreGrouped groups.decls groups.lens (packed_of pools) → rooms_of pools ≡ replicate (length decls) no_room → slots.spare ≡ 0
+    → IsKept parts × (held_of parts ≡ unheard limit world (packed_of pools))
+fresh parts decls slots pools groups limit world made limit_is is lawful group_pools grouped bare none =
     let world_is : world_of parts ≡ world = (λ i. record { profile = (made.slots i).profile; decls = made.decls i; groups = (made.groups i).decls; tick = 0; slots = (made.slots i).slots; free = (made.slots i).free; pools = maps_of (made.pools i) }) ∙ is in
     let limits : parts.slots.limit ≡ limit = ap (λ (s : SlotLists). s.limit) made.slots ∙ limit_is in
     let now : IsLawful parts.slots.limit (world_of parts) = subst (λ n. IsLawful n (world_of parts)) (sym limits) (subst (IsLawful limit) (sym world_is) lawful) in
@@ -98,18 +99,20 @@ fresh parts decls slots pools groups limit world made limit_is is lawful group_p
         construct = (made.construct ∙ ap (λ n. replicate n []) count) i;
         update = (made.update ∙ ap (λ n. replicate n []) count) i;
         destroy = (made.destroy ∙ ap (λ n. replicate n []) count) i;
+        rooms = (ap rooms_of made.pools ∙ bare ∙ ap (λ n. replicate n no_room) count) i;
+        slots_spare = (ap (λ (s : SlotLists). s.spare) made.slots ∙ none) i;
       },
     )
 
 -- the same, of no slots, no groups and no rows
 pub fresh_new : {L : Type 0} (parts : Parts L) (profile : Profile) (limit : ℕ) (decls : List Decl) (slots : SlotLists) (pools : List (Stored Row)) (groups : Groups) → AreMadeOf parts profile decls slots pools groups → slots ≡ slot_lists profile limit [] []
-    → pairs_of pools ≡ replicate (length decls) [] → groups.decls ≡ [] → groups.pools ≡ length decls → IsLawful limit (empty_world profile decls) → IsKept parts × (held_of parts ≡ unheard limit (empty_world profile decls) (keys_of (empty_world profile decls)))
-fresh_new parts profile limit decls slots pools groups made is none ungrouped group_pools lawful =
+    → pairs_of pools ≡ replicate (length decls) [] → rooms_of pools ≡ replicate (length decls) no_room → groups.decls ≡ [] → groups.pools ≡ length decls → IsLawful limit (empty_world profile decls) → IsKept parts × (held_of parts ≡ unheard limit (empty_world profile decls) (keys_of (empty_world profile decls)))
+fresh_new parts profile limit decls slots pools groups made is none bare ungrouped group_pools lawful =
     let of : profile ≡ slots.profile = ap (λ (s : SlotLists). s.profile) (sym is) in
     let maps : maps_of pools ≡ replicate (length decls) [] = maps_of_pairs pools _ none (none_ascend (length decls)) in
     let both = fresh parts decls slots pools groups limit (empty_world profile decls) (subst (λ p. AreMadeOf parts p decls slots pools groups) of made) (ap (λ (s : SlotLists). s.limit) is)
     (λ i. record { profile = (is i).profile; decls = decls; groups = ungrouped i; tick = 0; slots = (is i).slots; free = (is i).free; pools = maps i }) lawful
-    group_pools (no_groups groups.decls groups.lens (packed_of pools) ungrouped) in
+    group_pools (no_groups groups.decls groups.lens (packed_of pools) ungrouped) bare (ap (λ (s : SlotLists). s.spare) is) in
     (both.0, both.1 ∙ ap (unheard limit (empty_world profile decls)) (packed_of_pairs pools _ none))
 
 -- as many pools were loaded as there are components
@@ -122,6 +125,7 @@ pub record IsLoaded (world : World) (groups : Groups) (loaded pools : List (Stor
   pub count : groups.pools ≡ length loaded
   pub grouped : AreGrouped groups.decls groups.lens (packed_of pools)
   pub rows : pairs_of loaded ≡ world.pools
+  pub spare : rooms_of loaded ≡ replicate (length world.pools) no_room
   pub cores : cores_of pools ≡ cores_of loaded
   pub still : AreStill (is_owned world.groups) (packed_of loaded) (packed_of pools)
 
@@ -137,11 +141,12 @@ fresh_load parts limit world decls slots list free loaded pools groups made decl
     let of : world.profile ≡ slots.profile = ap (λ (s : SlotLists). s.profile) (sym is) in
     let lists : slots ≡ slot_lists world.profile limit world.slots world.free = is ∙ (λ i. slot_lists world.profile limit (list_is i) (free_is i)) in
     let stored : maps_of pools ≡ world.pools = core_maps pools loaded of_rows.cores ∙ maps_of_pairs loaded world.pools of_rows.rows (pools_ascend world.profile world.slots world.decls world.pools h.pools) in
+    let rows_each : length world.pools ≡ length decls = ap length (sym of_rows.rows) ∙ length-map loaded (λ (s : Stored Row). s.pairs) ∙ count_loaded limit world loaded of_rows.rows h ∙ ap length (sym decls_is) in
     let each : length loaded ≡ length decls = count_loaded limit world loaded of_rows.rows h ∙ ap length (sym decls_is) in
     let both = fresh parts decls slots pools groups limit (record world { tick = 0 }) (subst (λ p. AreMadeOf parts p decls slots pools groups) of made) (ap (λ (s : SlotLists). s.limit) is)
     (λ i. record { profile = (lists i).profile; decls = decls_is i; groups = of_rows.decls i; tick = 0; slots = (lists i).slots; free = (lists i).free; pools = stored i })
     (record { profile = h.profile; few_decls = h.few_decls; decls = h.decls; slots = h.slots; pools = h.pools; groups = h.groups })
-    (of_rows.count ∙ each) of_rows.grouped in
+    (of_rows.count ∙ each) of_rows.grouped (core_rooms pools loaded of_rows.cores ∙ of_rows.spare ∙ ap (λ n. replicate n no_room) rows_each) (ap (λ (s : SlotLists). s.spare) is) in
     let here : packed_of pools ≡ packed_of parts.pools.items = ap packed_of (sym made.pools) in
     record {
       kept = both.0;

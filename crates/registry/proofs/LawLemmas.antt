@@ -40,7 +40,7 @@ once_more pools i p before here once k stored low at = elim (cases_lt k i) [
       subst (λ (s : Stored Row). entries.HasEachOnce s.pairs) same once
 ]
 
-packed_lists : (pools : List (Stored Row)) → HaveEachOnce pools → ArePackedListsOf (map entries.keys (maps_of pools)) (packed_of pools)
+pub packed_lists : (pools : List (Stored Row)) → HaveEachOnce pools → ArePackedListsOf (map entries.keys (maps_of pools)) (packed_of pools)
 packed_lists [] once = tt
 packed_lists (p ∷ pools) once = (keys_permute p.pairs (once 0 p refl), packed_lists pools (λ pool stored at. once (suc pool) stored at))
 

@@ -1,15 +1,13 @@
 -- Packed lists that a command leaves, where it moves none for the groups' sake.
-use Rattle.std.proofs.Common.{◌≡◌, ℕ, suc, false, true, if◌then◌else◌, List, [], ◌∷◌, ◌++◌, map, length, set, refl, sym, ap, ap₂, ◌∙◌, Bool, drop, arith}
+use Rattle.std.proofs.Common.{◌≡◌, ℕ, suc, false, true, if◌then◌else◌, List, [], ◌∷◌, ◌++◌, length, set, refl, sym, ap₂, ◌∙◌, Bool, drop, arith}
 use Rattle.std.proofs.lemmas.List.{length-map, length-set}
 use Rattle.entity_id.specs.declared.entity.Entity.{Entity}
 use Rattle.world_model.specs.declared.command.Command.{Command}
 use Rattle.world_model.specs.declared.command.Command.TheVariants.{Destroy, Emplace, EmplaceOrReplace, Remove, Erase, Clear, SortPool, SortGroup}
-use Rattle.world_model.specs.Contents.{has_row, pool_at, group_at}
+use Rattle.world_model.specs.Contents.{has_row, group_at}
 use Rattle.world_model.specs.Groups.{packed_at}
-use Rattle.world_model.specs.Outcomes.{member_rows}
-use Rattle.group_engine.specs.Grouped.{AreStill}
 use Rattle.registry.specs.Held.{Held}
-use Rattle.registry.specs.Packing.{popped, appended_in, popped_in, arranged_in, sorted_keys, packed_after, regroups, Repacks}
+use Rattle.registry.specs.Packing.{popped, appended_in, arranged_in, packed_after, regroups, Repacks}
 
 -- lists of packed lists are equal where they are as long and equal pool by pool
 same_lists : (a b : List (List Entity)) → length a ≡ length b → ((pool : ℕ) → packed_at a pool ≡ packed_at b pool) → a ≡ b

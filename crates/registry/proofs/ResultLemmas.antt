@@ -1,5 +1,5 @@
 -- What holds where a call was done, and where it was refused.
-use Rattle.std.proofs.Common.{◌≡◌, Bool, true, false, Result, Ok, Err, OnOk, OnErr, IfOk, is_ok, is_err, refl, sym}
+use Rattle.std.proofs.Common.{◌≡◌, ◌≢◌, Bool, true, false, Result, Ok, Err, OnOk, OnErr, IfOk, IfErr, IsOk, is_ok, is_err, refl, sym}
 use Rattle.std.specs.Bool.{OnTrue, OnFalse}
 
 -- from two facts on success
@@ -40,6 +40,10 @@ pub ok_by_not_err : {A E : Type 0} (r : Result A E) → is_err r ≡ false → i
 ok_by_not_err (Ok x) h = refl
 ok_by_not_err (Err x) h = sym h
 
+pub not_ok_by_err : {A E : Type 0} (r : Result A E) → is_err r ≡ true → is_ok r ≡ false
+not_ok_by_err (Ok x) h = sym h
+not_ok_by_err (Err x) h = refl
+
 pub all_err : {A E P : Type 0} (r : Result A E) → P → OnErr r P
 all_err (Ok x) h = tt
 all_err (Err x) h = h
@@ -58,3 +62,13 @@ then_err (Err x) p h = h p
 pub by_false : {P : Type 0} (b : Bool) → b ≡ false → OnFalse b P → P
 by_false true h p = cc
 by_false false h p = p
+
+-- what was no refusal had none
+pub no_err : {A E : Type 0} (P : E → Type 0) (r : Result A E) → IsOk r → IfErr r P
+no_err P (Ok x) h = tt
+no_err P (Err x) h = let apart : false ≡ true = h in cc
+
+-- refused for one cause alone, and never for that
+pub never_err : {A E : Type 0} (cause : E) (r : Result A E) → IfErr r (λ e. e ≡ cause) → IfErr r (λ e. e ≢ cause) → IsOk r
+never_err cause (Ok x) h k = refl
+never_err cause (Err x) h k = absurd (k h)

@@ -17,7 +17,7 @@ use Rattle.world_model.specs.Groups.{packed_at}
 use Rattle.registry.specs.Running.{may_want_memory, reply_by, IsRun}
 use Rattle.registry.proofs.DoneLemmas.{same, refused}
 
-want_or_cause : (e : Refusal) → (e ≡ refusal.OutOfMemory) ⊎ (e ≢ refusal.OutOfMemory)
+pub want_or_cause : (e : Refusal) → (e ≡ refusal.OutOfMemory) ⊎ (e ≢ refusal.OutOfMemory)
 want_or_cause refusal.OutOfMemory = inl refl
 want_or_cause refusal.Dead = inr (λ q. cc)
 want_or_cause refusal.Present = inr (λ q. cc)

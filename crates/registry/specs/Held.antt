@@ -16,7 +16,17 @@ use Rattle.world_model.specs.Groups.{has_pool, members, group_prefix}
 use Rattle.world_model.specs.Refusing.{first_refusal, refuse, refusal_of, when_no_group, when_no_pool}
 use Rattle.world_model.specs.Steps.{step, heard_by}
 
--- a world at tick 0 with at most so many slots, the packed list of each pool, and for each kind of event the listeners of each pool
+-- for how many more rows a pool has room, and below which index their identifiers are
+pub record PoolRoom : Type 0 where
+  pub spare : ℕ
+  pub index_bound : ℕ
+
+-- room for no row
+abbrev pub no_room : PoolRoom
+no_room = record { spare = 0; index_bound = 0 }
+
+-- a world at tick 0 with at most so many slots, the packed list of each pool, for each kind of event the listeners of each pool, and
+-- what more there is room for
 pub record Held : Type 0 where
   -- the most slots
   pub limit : ℕ
@@ -30,6 +40,10 @@ pub record Held : Type 0 where
   pub update : List (List (Option Hearing))
   -- those that hear of rows removed
   pub destroy : List (List (Option Hearing))
+  -- the room of each pool
+  pub rooms : List PoolRoom
+  -- how many slots more there is room for
+  pub slots_spare : ℕ
 
 -- what listeners heard, with the events of their kind and pool behind it
 abbrev pub heard_after : EventKind → ℕ → List Event → List (Option (List Event)) → List (Option (List Event))
@@ -57,7 +71,7 @@ pub record AsBefore (old new : Held) : Type 0 where
   pub unchanged : Becomes old new old.world []
   pub packed : new.packed ≡ old.packed
 
--- a registry of this world, packed so, that nobody listens to
+-- a registry of this world, packed so, that nobody listens to, and with no room made
 abbrev pub unheard : ℕ → World → List (List Entity) → Held
 unheard limit world packed = record {
   limit = limit;
@@ -66,6 +80,8 @@ unheard limit world packed = record {
   construct = replicate (length world.decls) [];
   update = replicate (length world.decls) [];
   destroy = replicate (length world.decls) [];
+  rooms = replicate (length world.decls) no_room;
+  slots_spare = 0;
 }
 
 -- how many members a group has

@@ -1,4 +1,4 @@
--- How a registry is laid out. No public clause cites this file.
+-- How a registry is laid out. Public clauses cite `maps_of`, `rooms_of` and `HaveRoom` of this file, and nothing else.
 use Rattle.std.specs.Prelude.{◌≡◌, ℕ, List, [], map, length, replicate, Option, Some, slice_get}
 use Rattle.entity_id.specs.declared.entity.Entity.{Entity}
 use Rattle.entity_id.specs.FiniteMap as entries
@@ -15,7 +15,7 @@ use Rattle.world_model.specs.declared.world.World.{World}
 use Rattle.world_model.specs.Outcomes.{Outcome}
 use Rattle.world_model.specs.Worlds.{IsLawful}
 use Rattle.registry.specs.declared.parts.Parts.{Parts}
-use Rattle.registry.specs.Held.{Held, Becomes}
+use Rattle.registry.specs.Held.{Held, PoolRoom, Becomes}
 
 -- the finite map of each pool
 abbrev pub maps_of : List (Stored Row) → List (List (Entity × Row))
@@ -24,6 +24,14 @@ maps_of pools = map (λ stored. entries.map_of stored.pairs) pools
 -- the entries of each pool, in packed order
 abbrev pub pairs_of : List (Stored Row) → List (List (Entity × Row))
 pairs_of pools = map (λ stored. stored.pairs) pools
+
+-- the room of a pool
+abbrev pub room_of : Stored Row → PoolRoom
+room_of stored = record { spare = stored.spare; index_bound = stored.index_bound }
+
+-- the room of each pool
+abbrev pub rooms_of : List (Stored Row) → List PoolRoom
+rooms_of pools = map room_of pools
 
 -- the world that the parts stand for
 abbrev pub world_of : {L : Type 0} → Parts L → World
@@ -46,6 +54,8 @@ held_of parts = record {
   construct = parts.construct.items;
   update = parts.update.items;
   destroy = parts.destroy.items;
+  rooms = rooms_of parts.pools.items;
+  slots_spare = parts.slots.spare;
 }
 
 -- each destruction listener has room for as many events as its pool has rows

@@ -1,10 +1,15 @@
+pub mod Applying
 pub mod Clearing
 pub mod Costs
+pub mod Emptying
 pub mod Held
 pub mod Keys
 pub mod Laws
 pub mod Layout
 pub mod Leaving
+pub mod Lending
 pub mod Listeners
 pub mod Packing
+pub mod Rooms
 pub mod Running
+pub mod Spending

@@ -3,13 +3,16 @@
 mod components;
 mod groups;
 mod laws;
+mod lending;
 mod lifecycle;
 mod listeners;
+mod orders;
 mod queries;
 mod running;
 mod sorting;
 
 use super::parts::Parts;
+pub use lending::Shell;
 use signal_sink::Listener;
 use std::marker::Model;
 

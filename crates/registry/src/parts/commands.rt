@@ -9,7 +9,7 @@ ghost use Rattle.registry.specs.Running.{is_question, reply_by, Asks, IsRun};
 use super::grouping::group_by_ref;
 use super::listing::{list_members, list_sorted_group, list_sorted_pool};
 use super::width::is_wide;
-use super::{Parts, clearing, components, creation, leaving, queries, viewing};
+use super::{Parts, clearing, components, creation, fields, leaving, queries, viewing};
 use entity_id::{Entities, Entity};
 use signal_sink::Listener;
 use sparse_set::Steps;
@@ -38,7 +38,7 @@ pub fn run<L: Listener, G: Ledger>(
         }
         Command::EmplaceOrReplace { entity, pool, row } => {
             is_wide(row);
-            done(components::emplace_or_replace(parts, *entity, *pool, *row, steps))
+            done(components::emplace_or_replace(parts, *entity, *pool, *row, true, steps))
         }
         Command::Replace { entity, pool, row } => {
             is_wide(row);
@@ -49,7 +49,7 @@ pub fn run<L: Listener, G: Ledger>(
             pool,
             field,
             value,
-        } => { done(components::patch(parts, *entity, *pool, *field, *value)) }
+        } => { done(fields::patch(parts, *entity, *pool, *field, *value, true)) }
         Command::Remove { entity, pool } => {
             count(components::remove(parts, *entity, *pool, steps))
         }

@@ -1,10 +1,9 @@
 //! The commands on one row.
 
-ghost use Rattle.std.specs.Prelude.{◌≡◌, ◌≢◌, ◌+◌, ◌≤◌, ◌&&◌, not, Some, false, if◌then◌else◌, is_ok, Err, IfOk, IfErr, OnOk, OnErr};
-ghost use Rattle.world_model.specs.declared.command.Command.TheVariants.{Emplace, EmplaceOrReplace, Replace, Patch, Remove, Erase};
+ghost use Rattle.std.specs.Prelude.{◌≡◌, ◌≢◌, ◌+◌, ◌≤◌, ◌&&◌, not, length, Some, false, if◌then◌else◌, is_ok, Err, IfOk, IfErr, OnOk, OnErr};
+ghost use Rattle.world_model.specs.declared.command.Command.TheVariants.{Emplace, EmplaceOrReplace, Replace, Remove, Erase};
 ghost use Rattle.world_model.specs.declared.command.Reply.TheVariants.{Done, Number, Refused};
 ghost use Rattle.world_model.specs.declared.refusal.Refusal.{Refusal};
-ghost use Rattle.world_model.specs.Components.{with_field};
 ghost use Rattle.world_model.specs.Conditions.{IsAllowed};
 ghost use Rattle.world_model.specs.Contents.{has_row};
 ghost use Rattle.group_engine.specs.Grouped.{is_named};
@@ -12,9 +11,11 @@ ghost use Rattle.registry.specs.Costs.{row_steps};
 ghost use Rattle.registry.specs.Held.{Does, AsBefore, reply_to, refusal_to};
 ghost use Rattle.registry.specs.Layout.{world_of, held_of, IsKept};
 ghost use Rattle.registry.specs.Packing.{Repacks};
+ghost use Rattle.registry.specs.Rooms.{HasRoomInPool};
+ghost use Rattle.registry.specs.Spending.{nowhere, once_in, Spends};
 
 use super::Parts;
-use super::refusing::{entry_refusal, has_row, row_of};
+use super::refusing::{entry_refusal, has_row};
 use super::rows::{change_row, drop_row, put_row};
 use entity_id::Entity;
 use signal_sink::Listener;
@@ -49,7 +50,7 @@ pub fn emplace<L: Listener, G: Ledger>(
 {
     match entry_refusal(parts, entity, pool) {
         Some(refused) => Err(refused),
-        None => put_row(parts, entity, pool, row, steps),
+        None => put_row(parts, entity, pool, row, true, steps),
     }
 }
 
@@ -76,7 +77,7 @@ pub fn replace<L: Listener>(
 {
     match entry_refusal(parts, entity, pool) {
         Some(refused) => Err(refused),
-        None => change_row(parts, entity, pool, row),
+        None => change_row(parts, entity, pool, row, true),
     }
 }
 
@@ -86,10 +87,13 @@ pub fn emplace_or_replace<L: Listener, G: Ledger>(
     entity: Entity,
     pool: u32,
     row: Row,
+    growing: bool,
     steps: &mut Steps<G>,
 ) -> Result<(), Refusal>
     requires consistent { IsKept parts.old }
     requires allowed { IsAllowed (world_of parts.old) (EmplaceOrReplace entity pool row) }
+    requires room { growing ≡ false →
+        HasRoomInPool (held_of parts.old) (length parts.old.slots.slots) 1 1 pool }
     ensures consistent { IsKept parts.new }
     ensures ok { OnOk result
         (Does (held_of parts.old) (held_of parts.new) (EmplaceOrReplace entity pool row)) }
@@ -105,55 +109,14 @@ pub fn emplace_or_replace<L: Listener, G: Ledger>(
     ensures steps { is_named parts.old.groups.decls pool ≡ false → steps.new ≡ steps.old
         + (if is_ok result && not (has_row (world_of parts.old) pool entity) then 1 else 0) }
     ensures few { steps.new ≤ steps.old + row_steps parts.old.groups.decls pool }
+    ensures never { growing ≡ false → IfErr result (λ refused. refused ≢ Refusal.OutOfMemory) }
+    ensures spends { Spends (once_in pool) (once_in pool) (held_of parts.old) (held_of parts.new) }
 {
     match entry_refusal(parts, entity, pool) {
         Some(refused) => Err(refused),
-        None if has_row(parts, entity, pool) => change_row(parts, entity, pool, row),
-        None => put_row(parts, entity, pool, row, steps),
+        None if has_row(parts, entity, pool) => change_row(parts, entity, pool, row, growing),
+        None => put_row(parts, entity, pool, row, growing, steps),
     }
-}
-
-// Sets one field of a row.
-pub fn patch<L: Listener>(
-    parts: &mut Parts<L>,
-    entity: Entity,
-    pool: u32,
-    field: u32,
-    value: i64,
-) -> Result<(), Refusal>
-    requires consistent { IsKept parts.old }
-    requires allowed { IsAllowed (world_of parts.old) (Patch entity pool field value) }
-    ensures consistent { IsKept parts.new }
-    ensures ok { OnOk result
-        (Does (held_of parts.old) (held_of parts.new) (Patch entity pool field value)) }
-    ensures reply { OnOk result
-        (reply_to (held_of parts.old) (Patch entity pool field value) ≡ Done) }
-    ensures err { OnErr result (AsBefore (held_of parts.old) (held_of parts.new)) }
-    ensures cause { IfErr result (λ refused. refused ≢ Refusal.OutOfMemory →
-        refusal_to (held_of parts.old) (Patch entity pool field value) ≡ Some refused) }
-    ensures refused { (cause : Refusal) →
-        refusal_to (held_of parts.old) (Patch entity pool field value) ≡ Some cause → result ≡ Err cause }
-    ensures packed { OnOk result
-        (Repacks (held_of parts.old) (held_of parts.new) (Patch entity pool field value)) }
-{
-    if let Some(refused) = entry_refusal(parts, entity, pool) {
-        return Err(refused);
-    }
-    match row_of(parts, entity, pool) {
-        Some(row) => change_row(parts, entity, pool, with_field(row, field, value)),
-        None => Err(Refusal::Absent),
-    }
-}
-
-// The row with one field set, where it has the field.
-fn with_field(row: Row, field: u32, value: i64) -> Row
-    ensures { result ≡ with_field row field value }
-{
-    let mut f = row.f;
-    if (field as usize) < 4 {
-        f[field as usize] = value;
-    }
-    Row { f }
 }
 
 // Removes a row, where there is one, and says whether there was.
@@ -201,6 +164,7 @@ pub fn erase<L: Listener, G: Ledger>(
     ensures unchanged { OnErr result (AsBefore (held_of parts.old) (held_of parts.new)) }
     ensures packed { OnOk result
         (Repacks (held_of parts.old) (held_of parts.new) (Erase entity pool)) }
+    ensures spends { Spends nowhere nowhere (held_of parts.old) (held_of parts.new) }
     ensures steps { is_named parts.old.groups.decls pool ≡ false →
         steps.new ≡ steps.old + (if is_ok result then 1 else 0) }
     ensures few { steps.new ≤ steps.old + row_steps parts.old.groups.decls pool }

@@ -1,13 +1,15 @@
 //! Entities made.
 
-ghost use Rattle.std.specs.Prelude.{◌≡◌, ◌≢◌, [], Some, Err, IsTrue, IfOk, IfErr, OnOk, OnErr};
+ghost use Rattle.std.specs.Prelude.{◌≡◌, ◌≢◌, ◌+◌, ◌≤◌, [], length, Some, Err, IsTrue, IfOk, IfErr, OnOk, OnErr};
 ghost use Rattle.world_model.specs.declared.command.Command.TheVariants.{Create, Hint};
 ghost use Rattle.world_model.specs.declared.command.Reply.TheVariants.{Made};
 ghost use Rattle.world_model.specs.declared.refusal.Refusal.{Refusal};
 ghost use Rattle.registry.specs.Held.{Does, AsBefore, reply_to, refusal_to};
 ghost use Rattle.registry.specs.Layout.{held_of, IsKept};
 ghost use Rattle.registry.specs.Packing.{Repacks};
+ghost use Rattle.registry.specs.Rooms.{slots_after};
 ghost use Rattle.registry.specs.Running.{hint_needs_slot};
+ghost use Rattle.registry.specs.Spending.{nowhere, Spends};
 
 use super::Parts;
 use entity_id::Entity;
@@ -28,6 +30,10 @@ pub fn create<L: Listener>(parts: &mut Parts<L>) -> Result<Entity, Refusal>
         refusal_to (held_of parts.old) Create ≡ Some cause → result ≡ Err cause }
     ensures packed { OnOk result (Repacks (held_of parts.old) (held_of parts.new) Create) }
     ensures reuse { OnErr result (parts.old.slots.free ≡ []) }
+    ensures never { slots_after (held_of parts.old) 1
+        ≤ length parts.old.slots.slots + parts.old.slots.spare →
+        IfErr result (λ refused. refused ≢ Refusal.OutOfMemory) }
+    ensures spends { Spends nowhere nowhere (held_of parts.old) (held_of parts.new) }
 {
     match parts.slots.create() {
         Ok(entity) => Ok(entity),

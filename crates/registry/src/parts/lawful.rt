@@ -33,7 +33,7 @@ pub fn know_law<L: Listener>(parts: &Parts<L>)
 }
 
 // No pool has two rows of one index.
-fn know_each_once(pools: &[Storage<Row>])
+pub fn know_each_once(pools: &[Storage<Row>])
     ensures { (pool : ℕ) (stored : Stored Row) → slice_get pools.now pool ≡ Some stored →
         entries.HasEachOnce stored.pairs }
 {

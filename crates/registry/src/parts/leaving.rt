@@ -8,9 +8,10 @@ ghost use Rattle.world_model.specs.declared.command.Reply.TheVariants.{Done, Ref
 ghost use Rattle.group_engine.specs.Grouped.{packed_of, AreGrouped, AreStill, moves};
 ghost use Rattle.registry.specs.Costs.{row_steps, destroy_steps};
 ghost use Rattle.registry.specs.Held.{Does, AsBefore, reply_to};
-ghost use Rattle.registry.specs.Layout.{maps_of, world_of, held_of, HaveRoom, KeepGroups, IsKept};
+ghost use Rattle.registry.specs.Layout.{maps_of, rooms_of, world_of, held_of, HaveRoom, KeepGroups, IsKept};
 ghost use Rattle.registry.specs.Leaving.{Leave, pools_with};
 ghost use Rattle.registry.specs.Packing.{popped, Repacks};
+ghost use Rattle.registry.specs.Spending.{nowhere, SpendsRows, Spends};
 
 use super::Parts;
 use super::rows::withdraw;
@@ -38,6 +39,7 @@ pub fn destroy<L: Listener, G: Ledger>(
     ensures packed { OnOk result
         (Repacks (held_of parts.old) (held_of parts.new) (Destroy entity)) }
     ensures steps { steps.new ≤ steps.old + destroy_steps (world_of parts.old) entity }
+    ensures spends { Spends nowhere nowhere (held_of parts.old) (held_of parts.new) }
 {
     if !parts.slots.valid(entity) {
         return Err(Refusal::Dead);
@@ -79,6 +81,10 @@ fn leave_all<L: Listener, G: Ledger>(
         (map (popped entity) (packed_of pools.old.items)) (packed_of pools.new.items) }
     ensures steps { steps.new ≤ steps.old
         + sum_by (row_steps groups.old.decls) (pools_with (maps_of pools.old.items) entity) }
+    ensures spends { SpendsRows nowhere
+        (rooms_of pools.old.items) (rooms_of pools.new.items)
+        (packed_of pools.old.items) (packed_of pools.new.items)
+        signals.old.items signals.new.items }
 {
     let mut left = pools.len();
     while left > 0 {

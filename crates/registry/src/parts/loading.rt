@@ -1,14 +1,14 @@
 //! Registries of worlds.
 
-ghost use Rattle.std.specs.Prelude.{◌≡◌, ◌<◌, ◌≤◌, [], ◌∷◌, ◌++◌, length, None, IfOk, OnOk};
+ghost use Rattle.std.specs.Prelude.{◌≡◌, ◌<◌, ◌≤◌, [], ◌∷◌, ◌++◌, length, replicate, None, IfOk, OnOk};
 ghost use Rattle.group_engine.specs.Engine.{build_refusal};
 ghost use Rattle.group_engine.specs.Grouped.{packed_of, cores_of, AreGrouped, AreStill};
 ghost use Rattle.group_rules.specs.Families.{same_in};
 ghost use Rattle.world_model.specs.Contents.{keys_of};
 ghost use Rattle.world_model.specs.Groups.{has_pool, AreLawfulGroups};
 ghost use Rattle.world_model.specs.Worlds.{IsLawful, component_limit};
-ghost use Rattle.registry.specs.Held.{unheard};
-ghost use Rattle.registry.specs.Layout.{pairs_of, held_of, IsKept};
+ghost use Rattle.registry.specs.Held.{unheard, no_room};
+ghost use Rattle.registry.specs.Layout.{pairs_of, room_of, rooms_of, held_of, IsKept};
 ghost use Rattle.registry.specs.Packing.{is_owned};
 
 use super::Parts;
@@ -54,7 +54,9 @@ pub fn load<L: Listener>(
 
 // The pools of these rows. Nobody counts the steps.
 fn load_pools(alloc: Global, pools: &[Rows]) -> Result<Vec<Storage<Row>>, OutOfMemory>
-    ensures { IfOk result (λ loaded. pairs_of loaded.items ≡ pools.now) }
+    ensures rows { IfOk result (λ loaded. pairs_of loaded.items ≡ pools.now) }
+    ensures spare { IfOk result (λ loaded.
+        rooms_of loaded.items ≡ replicate (length pools.now) no_room) }
 {
     load_counted::<Brand>(alloc, pools, Blank::new(1))
 }
@@ -67,7 +69,9 @@ fn load_counted<G: Ledger>(
     requires name { blank.name ≡ G.name }
     requires parts { blank.parts ≡ G.parts }
     requires some { 0 < blank.parts }
-    ensures { IfOk result (λ loaded. pairs_of loaded.items ≡ pools.now) }
+    ensures rows { IfOk result (λ loaded. pairs_of loaded.items ≡ pools.now) }
+    ensures spare { IfOk result (λ loaded.
+        rooms_of loaded.items ≡ replicate (length pools.now) no_room) }
 {
     let mut steps = Steps::<G>::new(blank);
     let mut loaded = Vec::with_capacity(alloc, pools.len())?;
@@ -83,7 +87,8 @@ fn load_rows<G: Ledger>(
     rows: &[(Entity, Row)],
     steps: &mut Steps<G>,
 ) -> Result<Storage<Row>, OutOfMemory>
-    ensures { IfOk result (λ storage. storage.pairs ≡ rows.now) }
+    ensures rows { IfOk result (λ storage. storage.pairs ≡ rows.now) }
+    ensures spare { IfOk result (λ storage. room_of storage ≡ no_room) }
 {
     let mut storage = Storage::new(alloc);
     for entry in rows {

@@ -6,8 +6,8 @@ ghost use Rattle.entity_id.specs.Identifiers.{is_profile};
 ghost use Rattle.world_model.specs.Components.{IsDecl};
 ghost use Rattle.world_model.specs.Contents.{keys_of};
 ghost use Rattle.world_model.specs.Worlds.{component_limit, empty_world};
-ghost use Rattle.registry.specs.Held.{unheard};
-ghost use Rattle.registry.specs.Layout.{pairs_of, held_of, IsKept, AreMadeOf};
+ghost use Rattle.registry.specs.Held.{unheard, no_room};
+ghost use Rattle.registry.specs.Layout.{pairs_of, rooms_of, held_of, IsKept, AreMadeOf};
 
 use super::Parts;
 use entity_id::{OutOfMemory, Profile};
@@ -69,7 +69,8 @@ pub fn unheard_parts<L: Listener>(
 }
 
 fn empty_pools(alloc: Global, count: usize) -> Result<Vec<Storage<Row>>, OutOfMemory>
-    ensures { IfOk result (λ pools. pairs_of pools.items ≡ replicate count []) }
+    ensures rows { IfOk result (λ pools. pairs_of pools.items ≡ replicate count []) }
+    ensures spare { IfOk result (λ pools. rooms_of pools.items ≡ replicate count no_room) }
 {
     let mut pools = Vec::with_capacity(alloc, count)?;
     for _made in 0..count {

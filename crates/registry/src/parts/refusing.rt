@@ -1,12 +1,13 @@
 //! The causes that commands on one row share.
 
-ghost use Rattle.std.specs.Prelude.{◌≡◌, ◌<◌, [], ◌∷◌, length, Option};
+ghost use Rattle.std.specs.Prelude.{◌≡◌, ◌≢◌, ◌<◌, [], ◌∷◌, length, Option, Some, IsTrue};
 ghost use Rattle.std.specs.Option.{IfNone, option_or};
 ghost use Rattle.entity_id.specs.FiniteMap as entries;
 ghost use Rattle.world_model.specs.declared.refusal.Refusal.{Refusal};
 ghost use Rattle.world_model.specs.Contents.{has_row, pool_at};
 ghost use Rattle.world_model.specs.Groups.{are_declared};
 ghost use Rattle.world_model.specs.Refusing.{first_refusal, when_dead, when_no_entry, when_no_pool};
+ghost use Rattle.world_model.specs.Slots.{is_live};
 ghost use Rattle.registry.specs.Layout.{world_of, IsKept};
 
 use super::Parts;
@@ -21,6 +22,8 @@ pub fn entry_refusal<L: Listener>(parts: &Parts<L>, entity: Entity, pool: u32) -
     ensures cause { (further : Option Refusal) →
         when_no_entry (world_of parts.now) pool entity further ≡ option_or result further }
     ensures declared { IfNone result (pool < length parts.now.decls) }
+    ensures live { IfNone result (IsTrue (is_live parts.now.slots.slots entity)) }
+    ensures never { result ≢ Some Refusal.OutOfMemory }
 {
     if pool as usize >= parts.pools.len() {
         return Some(Refusal::NoPool);

@@ -1,6 +1,6 @@
 //! A row of one pool added, set, removed.
 
-ghost use Rattle.std.specs.Prelude.{◌≡◌, ◌≢◌, ◌+◌, ◌<◌, ◌≤◌, ◌&&◌, ℕ, [], length, slice_set, slice_index_or, Some, None, false, if◌then◌else◌, is_ok, Err, OnOk, OnErr, IfErr};
+ghost use Rattle.std.specs.Prelude.{◌≡◌, ◌≢◌, ◌+◌, ◌<◌, ◌≤◌, ◌&&◌, ℕ, [], length, slice_set, slice_index_or, Some, None, false, if◌then◌else◌, is_ok, Err, IsTrue, OnOk, OnErr, IfErr};
 ghost use Rattle.std.specs.Bool.{OnTrue, OnFalse};
 ghost use Rattle.entity_id.specs.FiniteMap as entries;
 ghost use Rattle.group_engine.specs.Grouped.{packed_of, is_named, moves, AreGrouped, AreStill};
@@ -10,10 +10,14 @@ ghost use Rattle.world_model.specs.declared.refusal.Refusal.{Refusal};
 ghost use Rattle.world_model.specs.Contents.{has_row};
 ghost use Rattle.world_model.specs.Outcomes.{sets, drops};
 ghost use Rattle.world_model.specs.Refusing.{when_present, when_absent};
+ghost use Rattle.world_model.specs.Slots.{is_live};
 ghost use Rattle.registry.specs.Costs.{row_steps};
-ghost use Rattle.registry.specs.Layout.{maps_of, world_of, HaveRoom, KeepGroups, IsKept, Gives, Stays};
+ghost use Rattle.registry.specs.Layout.{maps_of, rooms_of, world_of, held_of, HaveRoom, KeepGroups, IsKept, Gives, Stays};
 ghost use Rattle.registry.specs.Leaving.{hearings_after};
 ghost use Rattle.registry.specs.Packing.{appended_in, popped_in};
+ghost use Rattle.registry.specs.Rooms.{hearings_in, HasRoomInPool};
+ghost use Rattle.registry.specs.Spending.{nowhere, once_in, SpendsRows, Spends};
+ghost use Rattle.signal_sink.specs.Hearings.{HaveSpare};
 
 use super::Parts;
 use super::one_pool::{change, enter, leave};
@@ -26,16 +30,20 @@ use storage::Storage;
 use world_model::{Event, EventKind, Refusal, Row};
 
 // Adds the row of an identifier, which then enters and leaves groups as they ask. `Present` exactly
-// where it has one, and `OutOfMemory`.
+// where it has one, and `OutOfMemory`, but never where the room stands, and then none is asked for.
 pub fn put_row<L: Listener, G: Ledger>(
     parts: &mut Parts<L>,
     entity: Entity,
     pool: u32,
     row: Row,
+    growing: bool,
     steps: &mut Steps<G>,
 ) -> Result<(), Refusal>
     requires consistent { IsKept parts.old }
     requires declared { pool < length parts.old.decls }
+    requires live { growing ≡ false → IsTrue (is_live parts.old.slots.slots entity) }
+    requires place { growing ≡ false →
+        HasRoomInPool (held_of parts.old) (length parts.old.slots.slots) 1 1 pool }
     ensures ok { OnOk result
         (Gives parts.old parts.new (sets event.Construct (world_of parts.old) entity pool row)) }
     ensures absent { OnOk result (when_present (world_of parts.old) pool entity ≡ None) }
@@ -52,6 +60,9 @@ pub fn put_row<L: Listener, G: Ledger>(
         steps.new ≡ steps.old + (if is_ok result then 1 else 0) }
     ensures few { steps.new ≤ steps.old
         + (if is_ok result then row_steps parts.old.groups.decls pool else 0) }
+    ensures never { growing ≡ false → IfErr result (λ refused. refused ≢ Refusal.OutOfMemory) }
+    ensures spends { (updates : ℕ → ℕ) →
+        Spends (once_in pool) updates (held_of parts.old) (held_of parts.new) }
 {
     let at = pool as usize;
     let told = Event {
@@ -65,6 +76,7 @@ pub fn put_row<L: Listener, G: Ledger>(
         &mut parts.destroy[at],
         told,
         row,
+        growing,
         steps,
     )?;
     groups_after_changes(parts.pools[at].values());
@@ -74,15 +86,19 @@ pub fn put_row<L: Listener, G: Ledger>(
     Ok(())
 }
 
-// Sets the row of an identifier. `Absent` exactly where it has none, and `OutOfMemory`.
+// Sets the row of an identifier. `Absent` exactly where it has none, and `OutOfMemory`, but never where
+// the room stands, and then none is asked for.
 pub fn change_row<L: Listener>(
     parts: &mut Parts<L>,
     entity: Entity,
     pool: u32,
     row: Row,
+    growing: bool,
 ) -> Result<(), Refusal>
     requires consistent { IsKept parts.old }
     requires declared { pool < length parts.old.decls }
+    requires heard { growing ≡ false →
+        HaveSpare 1 (hearings_in (held_of parts.old).update pool) }
     ensures ok { OnOk result
         (Gives parts.old parts.new (sets event.Update (world_of parts.old) entity pool row)) }
     ensures present { OnOk result (when_absent (world_of parts.old) pool entity ≡ None) }
@@ -92,6 +108,9 @@ pub fn change_row<L: Listener>(
     ensures refused { (cause : Refusal) →
         when_absent (world_of parts.old) pool entity ≡ Some cause → result ≡ Err cause }
     ensures packed { packed_of parts.new.pools.items ≡ packed_of parts.old.pools.items }
+    ensures never { growing ≡ false → IfErr result (λ refused. refused ≢ Refusal.OutOfMemory) }
+    ensures spends { (adds : ℕ → ℕ) →
+        Spends adds (once_in pool) (held_of parts.old) (held_of parts.new) }
 {
     let at = pool as usize;
     let told = Event {
@@ -99,7 +118,13 @@ pub fn change_row<L: Listener>(
         pool,
         entity,
     };
-    change(&mut parts.pools[at], &mut parts.update[at], told, row)
+    change(
+        &mut parts.pools[at],
+        &mut parts.update[at],
+        told,
+        row,
+        growing,
+    )
 }
 
 // Takes the row of an identifier out, and says whether there was one.
@@ -124,6 +149,7 @@ pub fn drop_row<L: Listener, G: Ledger>(
         steps.new ≡ steps.old + (if result then 1 else 0) }
     ensures few { steps.new ≤ steps.old
         + (if result then row_steps parts.old.groups.decls pool else 0) }
+    ensures spends { Spends nowhere nowhere (held_of parts.old) (held_of parts.new) }
 {
     withdraw(
         &mut parts.pools,
@@ -167,6 +193,10 @@ pub fn withdraw<L: Listener, G: Ledger>(
     ensures steps { is_named groups.old.decls pool ≡ false →
         steps.new ≡ steps.old + (if result then 1 else 0) }
     ensures few { steps.new ≤ steps.old + (if result then row_steps groups.old.decls pool else 0) }
+    ensures spends { SpendsRows nowhere
+        (rooms_of pools.old.items) (rooms_of pools.new.items)
+        (packed_of pools.old.items) (packed_of pools.new.items)
+        destroy.old.items destroy.new.items }
 {
     let at = pool as usize;
     if !pools[at].contains(entity) {

@@ -14,7 +14,7 @@ ghost use Rattle.registry.specs.Packing.{Repacks};
 
 use super::Registry;
 use crate::parts::width::is_wide;
-use crate::parts::{clearing, components};
+use crate::parts::{clearing, components, fields};
 use entity_id::Entity;
 use signal_sink::Listener;
 use sparse_set::Steps;
@@ -80,7 +80,7 @@ impl<L: Listener> Registry<L> {
         ensures few { steps.new ≤ steps.old + row_steps self.old.world.groups pool }
     {
         is_wide(&row);
-        components::emplace_or_replace(&mut self.parts, entity, pool, row, steps)
+        components::emplace_or_replace(&mut self.parts, entity, pool, row, true, steps)
     }
 
     /// Replaces a row, of which the pool's listeners of updates hear. The row fits the component,
@@ -125,7 +125,7 @@ impl<L: Listener> Registry<L> {
             refusal_to self.old (Patch entity pool field value) ≡ Some cause → result ≡ Err cause }
         ensures packed { OnOk result (Repacks self.old self.new (Patch entity pool field value)) }
     {
-        components::patch(&mut self.parts, entity, pool, field, value)
+        fields::patch(&mut self.parts, entity, pool, field, value, true)
     }
 
     /// Removes a row, where there is one: 1 then, once its listeners heard of its destruction, and

@@ -4,7 +4,9 @@ use Rattle.world_model.specs.declared.refusal.Refusal.TheVariants as refusal
 use Rattle.world_model.specs.Refusing.{refuse}
 use Rattle.registry.specs.Held.{refusal_to}
 use Rattle.registry.specs.Layout.{held_of}
+use Rattle.registry.specs.Spending.{nowhere}
 use Rattle.registry.proofs.DoneLemmas.{same, refused, did}
+use Rattle.registry.proofs.SpendLemmas.{spends_nothing}
 use Rattle.registry.proofs.parts.components.erase.Goals as goal
 
 pub returns-in-Some-clause-does : goal.returns-in-Some-clause-does
@@ -22,3 +24,6 @@ pub returns-in-None-clause-does : goal.returns-in-None-clause-does
 returns-in-None-clause-does g c =
     let fine : refusal_to (held_of c.args.parts.now) (Erase c.args.entity c.args.pool) ≡ None = c.in-None.ensures.cause _ ∙ ap (λ b. refuse (not b) refusal.Absent) (sym c.if-drop_row.ensures.was) in
     (did c.args.parts.now c.drop_row.new.parts (Erase c.args.entity c.args.pool) c.requires tt fine c.if-drop_row.ensures.gone).1
+
+pub returns-in-Some-clause-spends : goal.returns-in-Some-clause-spends
+returns-in-Some-clause-spends g c = spends_nothing nowhere nowhere (held_of c.args.parts.now)

@@ -8,7 +8,9 @@ use Rattle.storage.specs.Stored.{Stored}
 use Rattle.world_model.specs.declared.component.Row.{Row}
 use Rattle.group_engine.specs.Grouped.{packed_of, AreStill, moves}
 use Rattle.registry.specs.Costs.{row_steps}
-use Rattle.registry.specs.Layout.{maps_of}
+use Rattle.registry.specs.Layout.{maps_of, rooms_of}
+use Rattle.registry.specs.Spending.{nowhere}
+use Rattle.registry.proofs.SpendLemmas.{no_rows, rows_both}
 use Rattle.registry.specs.Packing.{popped_in}
 use Rattle.registry.proofs.CoreLemmas.{groups_stay}
 use Rattle.registry.proofs.LeavingLemmas.{IsLeft, left_one, none_left}
@@ -29,6 +31,7 @@ loop-left-init g c =
       groups = groups_stay c.args.groups.now pools pools c.requires.grouped refl;
       popped = subst (λ n. IsPoppedFrom decls maps c.args.entity n (packed_of pools) (packed_of pools)) (length-map pools (λ (s : Stored Row). entries.keys s.pairs) ∙ sym all) (none_popped decls maps c.args.entity (packed_of pools));
       steps = let none : sum_by (row_steps decls) (holders_from maps c.args.entity c.len-left.result) ≡ 0 = ap (sum_by (row_steps decls)) (no_holder maps c.args.entity c.len-left.result (all ∙ sym maps_long)) in omega (arith, none);
+      spends = no_rows nowhere (rooms_of pools) (packed_of pools) c.args.signals.now.items;
     }
 
 pub loop-left-preserved : goal.loop-left-preserved
@@ -62,6 +65,8 @@ loop-left-preserved g c =
           (subst (λ n. c.loop-left.steps ≤ c.args.steps.now + sum_by (row_steps decls) (holders_from maps e n)) next c.loop-left.invariant.steps)
           (subst (λ b. c.withdraw.new.steps ≤ c.loop-left.steps + cond b (row_steps decls i) 0) (all.was ∙ ap (λ m. entries.contains m e) (sym rows))
           (subst (λ groups. c.withdraw.new.steps ≤ c.loop-left.steps + cond c.withdraw.result (row_steps groups i) 0) kept.decls all.few));
+      spends = rows_both (rooms_of before) (rooms_of pools) (rooms_of c.withdraw.new.pools.items) (packed_of before) (packed_of pools) (packed_of c.withdraw.new.pools.items) c.args.signals.now.items c.loop-left.signals.items c.withdraw.new.destroy.items
+          c.loop-left.invariant.spends all.spends;
     }
 
 pub returns : goal.returns
@@ -79,4 +84,5 @@ returns g c =
       signal_each = h.signal_each;
       packed = all_popped decls (maps_of before) c.args.entity c.loop-left.left (packed_of before) (packed_of c.loop-left.pools.items) none c.loop-left.invariant.popped;
       steps = subst (λ holders. c.loop-left.steps ≤ c.args.steps.now + sum_by (row_steps decls) holders) (all_holders (maps_of before) c.args.entity c.loop-left.left none) c.loop-left.invariant.steps;
+      spends = c.loop-left.invariant.spends;
     }

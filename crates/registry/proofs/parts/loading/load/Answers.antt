@@ -1,12 +1,14 @@
-use Rattle.std.proofs.Common.{◌≡◌, ◌≤◌, List, length, sym, ap, ◌∙◌, subst, arith}
+use Rattle.std.proofs.Common.{◌≡◌, ◌≤◌, List, length, replicate, sym, ap, ◌∙◌, subst, arith}
 use Rattle.std.specs.Vec.{with_items}
 use Rattle.std.proofs.lemmas.List.{with_items_is}
+use Rattle.entity_id.specs.declared.entity.Entity.{Entity}
 use Rattle.group_engine.specs.Grouped.{packed_of, cores_of, AreGrouped, AreStill}
 use Rattle.storage.specs.Stored.{Stored}
 use Rattle.world_model.specs.declared.component.Row.{Row}
 use Rattle.world_model.specs.declared.group.GroupDecl.{GroupDecl}
 use Rattle.world_model.specs.Groups.{AreLawfulGroups}
 use Rattle.registry.specs.declared.parts.Parts.{Parts}
+use Rattle.registry.specs.Held.{no_room}
 use Rattle.registry.specs.Layout.{AreMadeOf}
 use Rattle.registry.specs.Packing.{is_owned}
 use Rattle.registry.proofs.CoreLemmas.{core_count}
@@ -17,7 +19,7 @@ use Rattle.registry.proofs.parts.loading.load.Goals as goal
 pub load_groups-requires : goal.load_groups-requires
 load_groups-requires g c =
     let count : length c.deref_mut.result.now ≡ length c.args.world.now.decls
-    = ap length c.deref_mut.ensures.value ∙ count_loaded c.args.slot_limit c.args.world.now c.in_ok-pools.pools.items (c.in_ok-pools.ensures ∙ c.as_slice-3.ensures) c.requires in
+    = ap length c.deref_mut.ensures.value ∙ count_loaded c.args.slot_limit c.args.world.now c.in_ok-pools.pools.items (c.in_ok-pools.ensures.rows ∙ c.as_slice-3.ensures) c.requires in
     record {
       few = let low : length c.args.world.now.decls ≤ 64 = c.requires.few_decls in omega (arith, count);
       lawful = subst (λ (decls : List GroupDecl). AreLawfulGroups (length c.deref_mut.result.now) decls) (sym c.as_slice-4.ensures)
@@ -36,7 +38,8 @@ returns g c =
       decls = put.decls ∙ c.as_slice-4.ensures;
       count = put.pools ∙ ap length c.deref_mut.ensures.value;
       grouped = subst (λ (items : List (Stored Row)). AreGrouped groups.decls groups.lens (packed_of items)) (sym back) put.grouped;
-      rows = c.in_ok-pools.ensures ∙ c.as_slice-3.ensures;
+      rows = c.in_ok-pools.ensures.rows ∙ c.as_slice-3.ensures;
+      spare = c.in_ok-pools.ensures.spare ∙ ap (λ (rows : List (List (Entity × Row))). replicate (length rows) no_room) c.as_slice-3.ensures;
       cores = ap cores_of back ∙ put.cores ∙ ap cores_of c.deref_mut.ensures.value;
       still = subst (λ (decls : List GroupDecl). AreStill (is_owned decls) (packed_of loaded.items) (packed_of pools.items)) c.as_slice-4.ensures
           (subst (λ (items : List (Stored Row)). AreStill (is_owned c.as_slice-4.result.now) (packed_of loaded.items) (packed_of items)) (sym back)

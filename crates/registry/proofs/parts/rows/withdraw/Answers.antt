@@ -1,4 +1,4 @@
-use Rattle.std.proofs.Common.{◌≡◌, ◌+◌, ◌++◌, ◌&&◌, cond, [], take, drop, length, get_or, set, Some, slice_get, true, sym, refl, ap, ap₂, ◌∙◌, subst, arith}
+use Rattle.std.proofs.Common.{◌≡◌, ◌≤◌, ◌+◌, ◌++◌, ◌&&◌, cond, [], take, drop, length, get_or, set, Some, slice_get, true, sym, refl, ap, ap₂, ◌∙◌, subst, arith}
 use Rattle.std.proofs.lemmas.List.{map-set}
 use Rattle.std.proofs.lemmas.Option.{get_or_from_slice_get}
 use Rattle.entity_id.specs.FiniteMap as entries
@@ -6,13 +6,15 @@ use Rattle.storage.specs.Stored.{Stored}
 use Rattle.world_model.specs.declared.component.Row.{Row}
 use Rattle.group_engine.specs.Grouped.{packed_of, cores_of, AreStill, AreGroupedWithout, moves}
 use Rattle.entity_id.specs.Matching.{is_in}
-use Rattle.registry.specs.Layout.{maps_of}
+use Rattle.registry.specs.Layout.{maps_of, rooms_of}
 use Rattle.registry.specs.Leaving.{hearings_after}
 use Rattle.registry.specs.Packing.{popped_in}
 use Rattle.registry.proofs.CoreLemmas.{core_count, core_here, core_maps, core_room, came_back, back_cores, groups_stay}
 use Rattle.registry.proofs.LeavingLemmas.{room_set, none_withdrawn, none_told}
 use Rattle.registry.proofs.PackingLemmas.{where_popped, still_popped, not_popped, in_here, all_still}
 use Rattle.registry.proofs.PoolLemmas.{read_at}
+use Rattle.registry.proofs.SpendLemmas.{spare_less, no_rows, rows_set, rows_to_cores}
+use Rattle.registry.specs.Spending.{nowhere}
 use Rattle.registry.proofs.parts.rows.withdraw.Goals as goal
 
 pub returns-then-not-contains-clause-maps : goal.returns-then-not-contains-clause-maps
@@ -35,6 +37,9 @@ returns-then-not-contains-clause-packed g c =
     let items = c.args.pools.now.items in
     let here : slice_get items c.args.pool ≡ Some c.index.result.now = read_at items (length items) c.args.pool c.index.result.now refl c.requires.declared c.index.ensures in
     all_still _ (popped_in c.args.pool c.args.entity (packed_of items)) (packed_of items) (not_popped items c.args.pool c.index.result.now c.args.entity here (sym c.if-not-contains.ensures.packed))
+
+pub returns-then-not-contains-clause-spends : goal.returns-then-not-contains-clause-spends
+returns-then-not-contains-clause-spends g c = no_rows nowhere (rooms_of c.args.pools.now.items) (packed_of c.args.pools.now.items) c.args.destroy.now.items
 
 pub before_remove-requires-clause-here : goal.before_remove-requires-clause-here
 before_remove-requires-clause-here g c =
@@ -92,6 +97,9 @@ returns g c =
       stays = tt;
       packed = subst (λ b. AreStill (λ other. b && moves decls at other) (popped_in at e (packed_of items)) (packed_of (set lent at p'))) was
           (still_popped (moves decls at) items lent at p p' e here count still c.leave.ensures.keys);
+      spends = rows_to_cores nowhere (rooms_of (set lent at p')) (packed_of (set lent at p')) items lent signals (set signals at c.leave.new.destroy) cores
+          (rows_set nowhere lent signals at p p' s c.leave.new.destroy here there (omega (arith, c.leave.ensures.spare)) (omega (arith, c.leave.ensures.bound))
+          (λ n h. c.leave.ensures.destroy_room n (spare_less (n + length p.pairs) (n + (length p.pairs + 0)) s (omega arith) h)));
       steps = λ unnamed. one ∙ ap (λ n. n + 1) (c.before_remove.ensures.quiet unnamed);
       few = let some = c.before_remove.ensures.steps in omega (arith, one, some);
     }
