@@ -1,0 +1,9 @@
+pub mod Lanes
+pub mod Stacks
+pub mod Walks
+pub mod Finding
+pub mod Runs
+pub mod RunLaws
+pub mod Operators
+pub mod Choices
+pub mod Doings
