@@ -1,0 +1,9 @@
+pub mod CarryLemmas
+pub mod FoldLemmas
+pub mod ListLemmas
+pub mod NumberLemmas
+pub mod PutLemmas
+pub mod RunLemmas
+pub mod SpawningLemmas
+pub mod TickLemmas
+pub mod WalkLemmas

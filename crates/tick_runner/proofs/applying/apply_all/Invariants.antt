@@ -1,0 +1,4 @@
+use Rattle.tick_runner.proofs.applying.apply_all.Given as goal
+
+abbrev pub ghosts-apply_counted : goal.ghosts-apply_counted
+ghosts-apply_counted g a = record { name = a.blank.name; parts = a.blank.parts }

@@ -1,0 +1,5 @@
+pub mod Putting
+pub mod Running
+pub mod Spawning
+pub mod Ticking
+pub mod Walking
