@@ -6,8 +6,12 @@ pub mod HearingLemmas
 pub mod LastWatches
 pub mod LawLemmas
 pub mod LiveLemmas
+pub mod OrderTickLemmas
 pub mod PlayLemmas
 pub mod ProgressLemmas
+pub mod RunningLemmas
 pub mod ScriptedLemmas
 pub mod TickLemmas
+pub mod TickedLemmas
 pub mod WatchParts
+pub mod WordLemmas

@@ -16,13 +16,13 @@ at_tick tick w = record w { tick = tick }
 abbrev pub outcome_at : ℕ → ScriptOutcome → ScriptOutcome
 outcome_at tick o = record { printed = o.printed; world = at_tick tick o.world; watches = o.watches }
 
-step_reply : (limit tick : ℕ) (w : World) (c : Command) → (step limit (record w { tick = tick }) c).reply ≡ (step limit w c).reply
+pub step_reply : (limit tick : ℕ) (w : World) (c : Command) → (step limit (record w { tick = tick }) c).reply ≡ (step limit w c).reply
 step_reply limit tick w c = grind arith
 
-step_world : (limit tick : ℕ) (w : World) (c : Command) → (step limit (record w { tick = tick }) c).world ≡ record (step limit w c).world { tick = tick }
+pub step_world : (limit tick : ℕ) (w : World) (c : Command) → (step limit (record w { tick = tick }) c).world ≡ record (step limit w c).world { tick = tick }
 step_world limit tick w c = grind arith
 
-step_events : (limit tick : ℕ) (w : World) (c : Command) → (step limit (record w { tick = tick }) c).events ≡ (step limit w c).events
+pub step_events : (limit tick : ℕ) (w : World) (c : Command) → (step limit (record w { tick = tick }) c).events ≡ (step limit w c).events
 step_events limit tick w c = grind arith
 
 watch_either : (b : Bool) (tick : ℕ) (x y : ScriptOutcome) → (if b then outcome_at tick x else outcome_at tick y) ≡ outcome_at tick (if b then x else y)

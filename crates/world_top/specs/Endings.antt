@@ -5,9 +5,13 @@ use Rattle.std.specs.Io.KnownBytes.{IsAtEnd}
 use Rattle.std.specs.declared.string.String.{String}
 use Rattle.ecs_io.specs.Streams.{Rose, Grows, GrowsByFront, Stays}
 use Rattle.world_top.specs.declared.verb.Verb.{Verb}
+use Rattle.world_text.specs.declared.fault.TextRefused.TheVariants as refused
+use Rattle.world_top.specs.declared.refused.InputRefused.{InputRefused}
+use Rattle.world_top.specs.declared.refused.InputRefused.TheVariants as cause
 use Rattle.world_top.specs.declared.outcome.Outcome.{Outcome}
 use Rattle.world_top.specs.declared.outcome.Outcome.TheVariants as ending
-use Rattle.world_top.specs.Output.{verb_of, IsOutput, IsBadInput}
+use Rattle.world_top.specs.Output.{IsOutput, IsBadInput, IsPastLimit}
+use Rattle.world_top.specs.Words.{verb_of}
 
 -- the longest input that the program reads
 abbrev pub input_limit : ℕ
@@ -42,6 +46,7 @@ Means verb s old new ending.ReadFault = Rose s.reads_before s.reads_after × Sta
 Means verb s old new ending.WriteFault = Rose s.writes_before s.writes_after × Prints verb s (GrowsByFront old new)
 Means verb s old new ending.TooLong = IfSome s.input (λ input. input_limit < length input) × Stays old new
 Means verb s old new ending.OutOfMemory = Stays old new
+Means verb s old new ending.TickLimit = WasRead s.input s.rest (IsPastLimit verb) × Stays old new
 
 -- the same, where the words may be no command: usage comes exactly there, and nothing is written
 abbrev pub MeansFor : Option Verb → Streams → (List ℕ → Type 0) → (List ℕ → Type 0) → Outcome → Type 0
@@ -57,6 +62,7 @@ number_of ending.ReadFault = 4
 number_of ending.WriteFault = 5
 number_of ending.TooLong = 6
 number_of ending.OutOfMemory = 7
+number_of ending.TickLimit = 8
 
 -- the words that tell an ending
 abbrev pub fault_words : Outcome → List ℕ
@@ -67,6 +73,7 @@ fault_words ending.ReadFault = codes "world: read fault\n"
 fault_words ending.WriteFault = codes "world: write fault\n"
 fault_words ending.TooLong = codes "world: input too long\n"
 fault_words ending.OutOfMemory = codes "world: out of memory\n"
+fault_words ending.TickLimit = codes "world: tick limit\n"
 
 -- the number behind them, with the line's end (10)
 abbrev pub fault_number : Outcome → List ℕ
@@ -86,7 +93,13 @@ pub record Ends {A : Type 0} (words : List (String A)) (s : Streams) (old new to
   pub front : GrowsByFront told_before told_after (fault_line outcome)
   pub whole : (Rose faults_before faults_after → ⊥) → Grows told_before told_after (fault_line outcome)
 
--- why a document was not read
+-- the ending of a command that has no output for an input, for this cause
+abbrev pub outcome_for : InputRefused → Outcome
+outcome_for (cause.Text (refused.BadLine line)) = ending.BadLine line
+outcome_for (cause.Text refused.OutOfMemory) = ending.OutOfMemory
+outcome_for cause.TickLimit = ending.TickLimit
+
+-- why there is no output
 abbrev pub IsRefusal : Verb → Option (List ℕ) → Option (List ℕ) → ℕ → ℕ → Outcome → Type 0
 IsRefusal verb input rest reads_before reads_after ending.Done = ⊥
 IsRefusal verb input rest reads_before reads_after ending.Usage = ⊥
@@ -95,3 +108,4 @@ IsRefusal verb input rest reads_before reads_after ending.ReadFault = Rose reads
 IsRefusal verb input rest reads_before reads_after ending.WriteFault = ⊥
 IsRefusal verb input rest reads_before reads_after ending.TooLong = IfSome input (λ bytes. input_limit < length bytes)
 IsRefusal verb input rest reads_before reads_after ending.OutOfMemory = Unit {0}
+IsRefusal verb input rest reads_before reads_after ending.TickLimit = WasRead input rest (IsPastLimit verb)

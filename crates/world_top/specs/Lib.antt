@@ -1,3 +1,6 @@
+pub mod Words
+pub mod Ticking
+pub mod Running
 pub mod Output
 pub mod Endings
 pub mod Playing

@@ -1,28 +1,18 @@
--- What the program puts out, by its words and its input.
-use Rattle.std.specs.Prelude.{◌≡◌, ℕ, List, [], ◌∷◌, Option, Some, None, codes, string_bytes, if◌then◌else◌}
-use Rattle.std.specs.Str.{bytes_eq}
-use Rattle.std.specs.declared.string.String.{String}
+-- What a command puts out for its input.
+use Rattle.std.specs.Prelude.{◌≡◌, ℕ, ◌+◌, ◌<◌, ◌≤◌, List}
 use Rattle.world_text.specs.declared.document.Document.{Document}
 use Rattle.world_text.specs.declared.fault.TextRefused.{TextRefused}
 use Rattle.world_text.specs.declared.fault.TextRefused.TheVariants as refused
 use Rattle.world_text.specs.declared.script.ScriptLine.{ScriptLine}
 use Rattle.world_text.specs.Documents.{IsDocument, IsBadLine, text}
+use Rattle.world_text.specs.Formats.{tick_limit}
 use Rattle.world_text.specs.Scripts.{IsScripted, IsBadScriptedLine}
 use Rattle.world_text.specs.Playing.{scripted_text}
+use Rattle.world_top.specs.declared.refused.InputRefused.{InputRefused}
+use Rattle.world_top.specs.declared.refused.InputRefused.TheVariants as cause
 use Rattle.world_top.specs.declared.verb.Verb.{Verb}
-use Rattle.world_top.specs.declared.verb.Verb.TheVariants.{Snapshot, Apply}
-
--- the command of this name
-abbrev pub verb_named : List ℕ → Option Verb
-verb_named name =
-    if bytes_eq name (codes "snapshot") then Some Snapshot else
-    if bytes_eq name (codes "apply") then Some Apply else None
-
--- the command that words are: one word that names it
-abbrev pub verb_of : {A : Type 0} → List (String A) → Option Verb
-verb_of [] = None
-verb_of (word ∷ []) = verb_named (string_bytes word)
-verb_of (word ∷ other ∷ words) = None
+use Rattle.world_top.specs.declared.verb.Verb.TheVariants.{Snapshot, Apply, Run}
+use Rattle.world_top.specs.Ticking.{document_after_ticks}
 
 -- these bytes are what `snapshot` prints: the canonical text of the document that the input is
 pub record IsSnapshot (input bytes : List ℕ) : Type 0 where
@@ -38,17 +28,44 @@ pub record IsApplied (input bytes : List ℕ) : Type 0 where
   pub read : IsScripted input document script
   pub printed : bytes ≡ scripted_text document script
 
--- these bytes are what a command prints for this input
+-- these bytes are what `run` prints for so many ticks: the canonical text of the document that the input is, after these ticks of its
+-- systems. Its tick number stays within the limit
+pub record IsRan (ticks : ℕ) (input bytes : List ℕ) : Type 0 where
+  pub document : Document
+  pub read : IsDocument input document
+  pub within : document.world.tick + ticks ≤ tick_limit
+  pub printed : bytes ≡ text (document_after_ticks ticks document)
+
+-- the input is a document whose tick number passes the limit in so many ticks
+pub record PassesLimit (ticks : ℕ) (input : List ℕ) : Type 0 where
+  pub document : Document
+  pub read : IsDocument input document
+  pub past : tick_limit < document.world.tick + ticks
+
+-- these bytes are what a command prints for this input. The number of workers plays no part
 abbrev pub IsOutput : Verb → List ℕ → List ℕ → Type 0
 IsOutput Snapshot input bytes = IsSnapshot input bytes
 IsOutput Apply input bytes = IsApplied input bytes
+IsOutput (Run ticks workers) input bytes = IsRan ticks input bytes
 
 -- this line of the input is the first that the command does not admit, or that is missing
 abbrev pub IsBadInput : Verb → List ℕ → ℕ → Type 0
 IsBadInput Snapshot input line = IsBadLine input line
 IsBadInput Apply input line = IsBadScriptedLine input line
+IsBadInput (Run ticks workers) input line = IsBadLine input line
 
--- why a command has no output for this input
+-- the command would take the input's tick number past the limit, which only `run` can
+abbrev pub IsPastLimit : Verb → List ℕ → Type 0
+IsPastLimit Snapshot input = ⊥
+IsPastLimit Apply input = ⊥
+IsPastLimit (Run ticks workers) input = PassesLimit ticks input
+
+-- why a command does not admit this input as a text
 abbrev pub IsInputCause : Verb → List ℕ → TextRefused → Type 0
 IsInputCause verb input (refused.BadLine line) = IsBadInput verb input line
 IsInputCause verb input refused.OutOfMemory = Unit {0}
+
+-- why a command has no output for this input
+abbrev pub IsOutputCause : Verb → List ℕ → InputRefused → Type 0
+IsOutputCause verb input (cause.Text refused) = IsInputCause verb input refused
+IsOutputCause verb input cause.TickLimit = IsPastLimit verb input

@@ -89,8 +89,8 @@ fn scripted<G: Ledger>(
     Ok(whole)
 }
 
-// Appends the canonical text of the document that a registry stands for, at a tick, with these systems.
-fn finish(
+/// Appends the canonical text of the document that a registry stands for, at a tick, with these systems.
+pub fn finish(
     registry: &Registry<Recorder>,
     tick: u64,
     systems: SystemList,

@@ -4,20 +4,10 @@ ghost use Rattle.std.specs.Prelude.{◌≡◌, ◌⊎◌, ℕ, ◌<◌, ◌≤�
 ghost use Rattle.ecs_io.specs.Streams.{Rose, Grows};
 ghost use Rattle.world_top.specs.declared.verb.Verb.{Verb};
 ghost use Rattle.world_top.specs.Endings.{Ends, Streams, input_limit};
-ghost use Rattle.world_top.specs.Output.{verb_of, IsOutput, IsBadInput};
+ghost use Rattle.world_top.specs.Output.{IsOutput, IsBadInput, IsPastLimit};
+ghost use Rattle.world_top.specs.Words.{verb_of};
 
 use ecs_io::Sink;
-
-/// A command has one output at most for an input. No input has both an output and a bad line, and none
-/// has two first bad lines. No memory.
-pub fn one_output()
-    ensures output { (verb : Verb) (input a b : List ℕ) →
-        IsOutput verb input a → IsOutput verb input b → a ≡ b }
-    ensures none { (verb : Verb) (input bytes : List ℕ) (line : ℕ) →
-        IsOutput verb input bytes → IsBadInput verb input line → ⊥ }
-    ensures line { (verb : Verb) (input : List ℕ) (a b : ℕ) →
-        IsBadInput verb input a → IsBadInput verb input b → a ≡ b }
-{}
 
 /// Where the words are a command, the source told its input, which is within the limit and has an
 /// output, and neither the source nor the sink failed, the program ends with 0, or with 7 for want of
@@ -77,4 +67,20 @@ pub fn long_inputs_are_told<K: Sink, E: Sink>(words: &[String])
         input_limit < length input →
         (Rose s.reads_before s.reads_after → ⊥) →
         (number ≡ 6) ⊎ (number ≡ 7) }
+{}
+
+/// Where the words are a command, the source told its input, which is within the limit and whose tick
+/// number the command would take past its limit, and no read failed, the program ends with 8, or with 7
+/// for want of memory. No memory.
+pub fn past_inputs_are_told<K: Sink, E: Sink>(words: &[String])
+    ensures { (verb : Verb) (input : List ℕ) (s : Streams) (old new : K)
+        (told_before told_after : E) (faults_before faults_after number : ℕ) →
+        Ends words.now s (K.holds old) (K.holds new) (E.holds told_before) (E.holds told_after)
+        faults_before faults_after number →
+        verb_of words.now ≡ Some verb →
+        s.input ≡ Some input →
+        length input ≤ input_limit →
+        IsPastLimit verb input →
+        (Rose s.reads_before s.reads_after → ⊥) →
+        (number ≡ 8) ⊎ (number ≡ 7) }
 {}

@@ -24,6 +24,8 @@ pub enum Outcome {
     TooLong,
     /// Memory ran out.
     OutOfMemory,
+    /// The tick number would pass its limit.
+    TickLimit,
 }
 
 /// The number with which the program ends.
@@ -46,6 +48,7 @@ impl Outcome {
             Outcome::WriteFault => 5,
             Outcome::TooLong => 6,
             Outcome::OutOfMemory => 7,
+            Outcome::TickLimit => 8,
         };
         Status { number }
     }

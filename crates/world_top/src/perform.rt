@@ -1,8 +1,10 @@
 ghost use Rattle.std.specs.Prelude.{◌≡◌, ◌≤◌, IfOk, IfErr};
-ghost use Rattle.world_top.specs.Endings.{Means, WasRead, IsRefusal};
-ghost use Rattle.world_top.specs.Output.{IsOutput, IsInputCause};
+ghost use Rattle.world_top.specs.Endings.{Means, WasRead, IsRefusal, outcome_for};
+ghost use Rattle.world_top.specs.Output.{IsOutput, IsOutputCause};
 
 use super::apply::apply;
+use super::refused::InputRefused;
+use super::run::run;
 use super::snapshot::snapshot;
 use super::{Outcome, Verb};
 use ecs_io::{ReadRefused, Sink, Source, read_all, write_all};
@@ -57,18 +59,28 @@ fn output<S: Source>(alloc: Global, verb: Verb, source: &mut S) -> Result<Vec<u8
     };
     match output_of(alloc, verb, input) {
         Ok(out) => Ok(out),
-        Err(TextRefused::BadLine { line }) => Err(Outcome::BadLine { line }),
-        Err(TextRefused::OutOfMemory) => Err(Outcome::OutOfMemory),
+        Err(refused) => Err(outcome_of(refused)),
+    }
+}
+
+fn outcome_of(refused: InputRefused) -> Outcome
+    ensures { result ≡ outcome_for refused }
+{
+    match refused {
+        InputRefused::Text(TextRefused::BadLine { line }) => Outcome::BadLine { line },
+        InputRefused::Text(TextRefused::OutOfMemory) => Outcome::OutOfMemory,
+        InputRefused::TickLimit => Outcome::TickLimit,
     }
 }
 
 // What a command makes of an input.
-fn output_of(alloc: Global, verb: Verb, input: Vec<u8>) -> Result<Vec<u8>, TextRefused>
+fn output_of(alloc: Global, verb: Verb, input: Vec<u8>) -> Result<Vec<u8>, InputRefused>
     ensures ok { IfOk result (λ out. IsOutput verb input.items out.items) }
-    ensures cause { IfErr result (IsInputCause verb input.items) }
+    ensures cause { IfErr result (IsOutputCause verb input.items) }
 {
     match verb {
-        Verb::Snapshot => snapshot(alloc, input),
-        Verb::Apply => apply(alloc, &input),
+        Verb::Snapshot => Ok(snapshot(alloc, input)?),
+        Verb::Apply => Ok(apply(alloc, &input)?),
+        Verb::Run { ticks, .. } => run(alloc, ticks, input),
     }
 }

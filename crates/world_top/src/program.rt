@@ -14,7 +14,7 @@ use std::thread::Threads;
 /// Does what the words say: all that the program does. What it prints goes to `sink`, and the line
 /// that tells any other ending than success to `faults`. Every status has its cause: 2 the words, 3
 /// the input's first bad line, 4 a failed read, 5 a failed write, 6 an input that is too long, 7 want
-/// of memory.
+/// of memory, 8 a tick number that would pass its limit.
 pub fn top<R: Threads + Wait, S: Source, K: Sink, E: Sink>(
     _rt: &R,
     alloc: Global,

@@ -31,6 +31,7 @@ fn words_of(outcome: Outcome) -> &'static [u8]
         Outcome::WriteFault => b"world: write fault\n",
         Outcome::TooLong => b"world: input too long\n",
         Outcome::OutOfMemory => b"world: out of memory\n",
+        Outcome::TickLimit => b"world: tick limit\n",
     }
 }
 

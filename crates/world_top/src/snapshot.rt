@@ -19,8 +19,8 @@ pub fn snapshot(alloc: Global, input: Vec<u8>) -> Result<Vec<u8>, TextRefused>
     }
 }
 
-// The document that the input is. The input's memory is given back before any text is made.
-fn read_document(alloc: Global, input: Vec<u8>) -> Result<Document, TextRefused>
+/// The document that the input is. The input's memory is given back before any text is made.
+pub fn read_document(alloc: Global, input: Vec<u8>) -> Result<Document, TextRefused>
     ensures document { IfOk result (λ document. IsDocument input.items document) }
     ensures lawful { IfOk result (λ document. IsLawfulDocument document) }
     ensures cause { IfErr result (IsCause input.items) }

@@ -62,8 +62,12 @@ fn top_does_what_plain_does(rt: HostRuntime) -> Result<(), Fail> {
 #[test]
 fn the_laws_are_called() {
     one_output();
+    every_input_is_answered();
+    ticks_keep_documents_lawful();
+    runs_in_parts();
     good_inputs_are_printed::<MemSink, MemSink>(&[]);
     success_prints_the_output::<MemSink, MemSink>(&[]);
     bad_inputs_are_told::<MemSink, MemSink>(&[]);
     long_inputs_are_told::<MemSink, MemSink>(&[]);
+    past_inputs_are_told::<MemSink, MemSink>(&[]);
 }

@@ -1,0 +1,48 @@
+-- Which words of the program are which command.
+use Rattle.std.specs.Prelude.{◌≡◌, ℕ, ◌&&◌, nat_le, List, [], ◌∷◌, Option, Some, None, codes, string_bytes, if◌then◌else◌}
+use Rattle.std.specs.Fmt.{decimal}
+use Rattle.std.specs.Str.{bytes_eq}
+use Rattle.std.specs.Str.Parse.{digits_value}
+use Rattle.std.specs.declared.string.String.{String}
+use Rattle.world_top.specs.declared.verb.Verb.{Verb}
+use Rattle.world_top.specs.declared.verb.Verb.TheVariants.{Snapshot, Apply, Run}
+
+-- the most ticks that words can ask for
+abbrev pub tick_count_limit : ℕ
+tick_count_limit = 1000000
+
+-- the most workers that words can ask for
+abbrev pub worker_limit : ℕ
+worker_limit = 16
+
+-- the number that a word spells in decimal, without sign and without a leading zero, where it is from a least to a greatest one
+abbrev pub number_between : ℕ → ℕ → List ℕ → Option ℕ
+number_between least greatest word =
+    let number = digits_value 10 word in
+    if bytes_eq (decimal number) word && (nat_le least number && nat_le number greatest) then Some number else None
+
+-- a run of so many ticks by so many workers, where both numbers are there
+abbrev pub run_of : Option ℕ → Option ℕ → Option Verb
+run_of (Some ticks) (Some workers) = Some (Run ticks workers)
+run_of (Some ticks) None = None
+run_of None workers = None
+
+-- the command of one word, which names it
+abbrev pub verb_named : List ℕ → Option Verb
+verb_named name =
+    if bytes_eq name (codes "snapshot") then Some Snapshot else
+    if bytes_eq name (codes "apply") then Some Apply else None
+
+-- the command of five words: `run`, and each of its two options before its number
+abbrev pub run_named : List ℕ → List ℕ → List ℕ → List ℕ → List ℕ → Option Verb
+run_named name first ticks second workers =
+    if bytes_eq name (codes "run") && (bytes_eq first (codes "--ticks") && bytes_eq second (codes "--workers"))
+    then run_of (number_between 0 tick_count_limit ticks) (number_between 1 worker_limit workers)
+    else None
+
+-- the command that words are
+abbrev pub verb_of : {A : Type 0} → List (String A) → Option Verb
+verb_of (word ∷ []) = verb_named (string_bytes word)
+verb_of (name ∷ first ∷ ticks ∷ second ∷ workers ∷ []) =
+    run_named (string_bytes name) (string_bytes first) (string_bytes ticks) (string_bytes second) (string_bytes workers)
+verb_of _ = None
