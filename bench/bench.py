@@ -173,18 +173,52 @@ def draw_command(entities: LiveEntities, draws: Draws) -> str:
     return f"valid {entity}"
 
 
+# The components of the example `arena.world`.
+ARENA = [
+    Component("position", 100, [(0, 999), (0, 999)]),
+    Component("velocity", 80, [(-5, 5), (-5, 5)]),
+    Component("health", 60, [(50, 100)]),
+    Component("team", 100, [(0, 3)]),
+    Component("target", 30, [ENTITY]),
+    Component("damage", 30, [(1, 5)]),
+    Component("timer", 50, [(0, 99)]),
+    Component("frozen", 10, []),
+    Component("marked", 40, [(0, 0)]),
+]
+
+
+def arena_header() -> str:
+    """The lines of the example before its tick: its components, groups and twelve systems."""
+    path = os.path.join(os.path.dirname(os.path.dirname(os.path.realpath(__file__))), "examples/arena.world")
+    with open(path, encoding="ascii") as example:
+        return example.read().split("\ntick ")[0] + "\n"
+
+
+def write_arena(out: TextIO, entities: int) -> None:
+    """Writes the example's header and so many entities, all live and of version 0."""
+    draws = Draws(entities)
+    versions = array.array("H", [0]) * entities
+    live = bytearray(b"\1") * entities
+    out.write(arena_header() + "tick 0\n" + "live 0\n" * entities)
+    for component in ARENA:
+        write_pool(out, component, versions, live, draws)
+    out.write("end\n")
+
+
 class Workload(NamedTuple):
-    """What is measured: the program's words, what its input counts, and the function that writes so many."""
+    """What is measured: the program's words, what its input counts, how many of it, and what writes so many."""
 
     name: str
     words: list[str]
     counted: str
+    count: int
     write_input: Callable[[TextIO, int], None]
 
 
 WORKLOADS = [
-    Workload("snapshot", ["snapshot"], "entities", write_plain_document),
-    Workload("apply", ["apply"], "commands", write_script),
+    Workload("snapshot", ["snapshot"], "entities", 1_000_000, write_plain_document),
+    Workload("apply", ["apply"], "commands", 1_000_000, write_script),
+    Workload("run", ["run", "--ticks", "50", "--workers", "1"], "entities", 100_000, write_arena),
 ]
 
 
@@ -264,7 +298,7 @@ def parse_options() -> argparse.Namespace:
     parser = argparse.ArgumentParser(description=__doc__, formatter_class=argparse.RawDescriptionHelpFormatter)
     names = [workload.name for workload in WORKLOADS]
     parser.add_argument("--workload", choices=names, help="one workload, and not one after another")
-    parser.add_argument("--count", type=int, default=1_000_000, help="entities or commands of the input (1000000)")
+    parser.add_argument("--count", type=int, help="entities or commands of the input, and not the workload's own number")
     parser.add_argument("--runs", type=int, default=5, help="runs of each program (5)")
     parser.add_argument("--beside", metavar="CMD", type=shlex.split, help="a second program, without its words")
     parser.add_argument("--keep", metavar="FOLDER", help="keep the inputs in this folder, which is there")
@@ -274,10 +308,11 @@ def parse_options() -> argparse.Namespace:
 def run_workload(workload: Workload, options: argparse.Namespace, folder: str) -> bool:
     """Measures one workload and prints what was found, and tells whether the outputs are equal."""
     programs = [[PROGRAM]] + ([options.beside] if options.beside else [])
-    input_path = os.path.join(options.keep or folder, f"{workload.name}-{options.count}")
+    count = options.count or workload.count
+    input_path = os.path.join(options.keep or folder, f"{workload.name}-{count}")
     outputs = [os.path.join(folder, f"output-{number}") for number in range(len(programs))]
-    size = write_input(workload, options.count, input_path)
-    print(f"{workload.name}: {options.count} {workload.counted}, {size} bytes, {options.runs} runs each", flush=True)
+    size = write_input(workload, count, input_path)
+    print(f"{workload.name}: {count} {workload.counted}, {size} bytes, {options.runs} runs each", flush=True)
     summaries = measure([program + workload.words for program in programs], input_path, outputs, options.runs)
     print_summaries(summaries, size)
     if len(outputs) < 2:
