@@ -28,7 +28,7 @@ use Rattle.world_text.specs.Meaning.{decl_in, group_of, groups_in, slot_in, next
 use Rattle.world_text.specs.Fitting.{section_of, last_section, fits, fit_after, are_different, is_unfinished}
 use Rattle.world_text.specs.SystemLines.{SystemsSoFar, no_systems, with_lines, systems_in, commands_of}
 use Rattle.row_lang.specs.Naming.{are_named_apart}
-use Rattle.world_text.specs.Documents.{IsDocumentOf, IsDocument, IsLawfulDocumentOf, IsLawfulDocument, group_line, system_lines, pool_lines, header_of, lines_of, text}
+use Rattle.world_text.specs.Documents.{AreAdmissible, IsDocumentOf, IsDocument, IsLawfulDocumentOf, IsLawfulDocument, group_line, system_lines, pool_lines, header_of, lines_of, text}
 use Rattle.world_text.proofs.MeaningLemmas.{flat_map_push, order_later, later_is, order_last_section-append, last_section_push, no_group_yet, no_next_yet, no_pool_yet}
 use Rattle.world_text.proofs.GroupLemmas.{IsSaid, MayJoin, lawful_groups_said, lawful_join}
 use Rattle.world_text.proofs.PrintedMeaning.{none_in, each_in, lines_flat, world_printed, systems_printed}
@@ -239,6 +239,16 @@ header_spelled document lawful =
     (all-append (IsLine version_1) (map (group_line w.decls) w.groups) _ (groups_spelled w.decls version_1 w.groups h.said)
     (systems_spelled version_1 w.decls document.systems lawful.named h.canonical))
 
+-- the printed lines of a lawful document are admissible
+pub printed_admissible : (format : Format) (document : Document) → IsLawfulDocumentOf format document → AreAdmissible format (lines_of document)
+printed_admissible format document lawful =
+    let w = document.world in
+    let h = printable format document lawful in
+    record {
+      each = subst (AllByRecursion (IsLine format)) (lines_flat document) (subst (λ p. AllByRecursion (IsLine format) (lines_at p w document.systems)) (sym lawful.profile) (lines_spelled format w document.systems h));
+      fit = subst (λ ls. fit_after format [] ls ≡ true) (lines_flat document) (subst (λ p. fit_after format [] (lines_at p w document.systems) ≡ true) (sym lawful.profile) (lines_fit format w document.systems h));
+    }
+
 -- the printed lines of a lawful document are a document that stands for the same
 pub printed_is_document_of : (format : Format) (document : Document) → IsLawfulDocumentOf format document → IsDocumentOf format (text_of format (lines_of document)) document
 printed_is_document_of format document lawful =
@@ -246,10 +256,7 @@ printed_is_document_of format document lawful =
     let h = printable format document lawful in
     record {
       lines = lines_of document;
-      admissible = record {
-        each = subst (AllByRecursion (IsLine format)) (lines_flat document) (subst (λ p. AllByRecursion (IsLine format) (lines_at p w document.systems)) (sym lawful.profile) (lines_spelled format w document.systems h));
-        fit = subst (λ ls. fit_after format [] ls ≡ true) (lines_flat document) (subst (λ p. fit_after format [] (lines_at p w document.systems) ≡ true) (sym lawful.profile) (lines_fit format w document.systems h));
-      };
+      admissible = printed_admissible format document lawful;
       ended = ap last_section (sym (lines_flat document)) ∙ ends_printed w.profile w document.systems;
       spelled = refl;
       world_is = world_printed format document lawful.world lawful.profile (said_lines format document lawful);

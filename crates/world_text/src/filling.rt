@@ -1,6 +1,6 @@
 //! The pools of a draft, and the rows that go on the last of them.
 
-ghost use Rattle.std.specs.Prelude.{◌≡◌, true, false, slice_get, ◌++◌, ◌∷◌, ◌-◌, ◌<◌, ◌≤◌, [], length, slice_index_or, slice_set, OnOk, OnErr, IsErrOf};
+ghost use Rattle.std.specs.Prelude.{◌≡◌, true, false, slice_get, ◌++◌, ◌∷◌, ◌+◌, ◌-◌, ◌<◌, ◌≤◌, [], length, slice_index_or, slice_set, OnOk, OnErr, IsErrOf};
 ghost use Rattle.std.specs.Option.{option_map_or};
 ghost use Rattle.world_model.specs.Components.{has_name};
 ghost use Rattle.world_text.specs.Fitting.{is_above as above};
@@ -18,6 +18,9 @@ use world_model::{Decl, Row, Rows, is_live};
 pub fn add_pool(alloc: Global, draft: &mut Draft, name: Name) -> Result<(), LineFault>
     ensures ok { OnOk result (Takes draft.old (Line.Pool name) draft.new) }
     ensures bad { IsErrOf result LineFault.Bad → Refuses draft.old (Line.Pool name) }
+    ensures decls { draft.new.decls.items ≡ draft.old.decls.items }
+    ensures slots { draft.new.slots.items ≡ draft.old.slots.items }
+    ensures pools { OnOk result (length draft.new.pools.items ≡ length draft.old.pools.items + 1) }
 {
     if !draft.section.is_between(Section::Tick, Section::Pools) {
         return Err(LineFault::Bad);
@@ -48,6 +51,9 @@ fn has_name_at(decls: &[Decl], number: usize, name: &[u8]) -> bool
 pub fn add_row(draft: &mut Draft, entity: Entity, row: Row) -> Result<(), LineFault>
     ensures ok { OnOk result (TakesRow draft.old entity row draft.new) }
     ensures bad { IsErrOf result LineFault.Bad → RefusesRow draft.old entity }
+    ensures decls { draft.new.decls.items ≡ draft.old.decls.items }
+    ensures slots { draft.new.slots.items ≡ draft.old.slots.items }
+    ensures pools { OnOk result (length draft.new.pools.items ≡ length draft.old.pools.items) }
 {
     if !draft.section.is_between(Section::Pools, Section::Pools) {
         return Err(LineFault::Bad);

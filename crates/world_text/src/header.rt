@@ -2,10 +2,11 @@
 
 ghost use Rattle.std.specs.Prelude.{◌≡◌, ◌++◌, ◌∷◌, [], ℕ, List, not, true, map, IfOk, OnOk, OnErr, IsErrOf};
 ghost use Rattle.world_text.specs.Documents.{IsLawfulDocument, header_of};
-ghost use Rattle.world_text.specs.Drafts.{TakesLine};
+ghost use Rattle.world_text.specs.Drafts.{Stands, TakesLine};
 ghost use Rattle.world_text.specs.Fitting.{is_unfinished};
 ghost use Rattle.world_text.specs.Formats.{version_1};
 ghost use Rattle.world_text.specs.Headers.{TakesHeaderLine, RefusesHeaderLine, RefusesHeaders, KeepsOthers, header_in, header_so_far};
+ghost use Rattle.world_text.specs.LineKinds.{Line};
 ghost use Rattle.world_text.specs.Lines.{line_text};
 
 use super::SystemList;
@@ -91,6 +92,15 @@ impl HeaderDraft {
         ensures { result.now ≡ self.now.decls }
     {
         &self.draft.decls
+    }
+
+    /// The draft of a document that begins with these lines, behind its first line. No memory.
+    pub fn into_draft(self) -> Draft
+        ensures stands { (lines : List Line) → self ≡ header_so_far lines →
+            Stands result (Line.Version ∷ lines) }
+        ensures format { result.format ≡ version_1 }
+    {
+        self.draft
     }
 
     /// What the lines stand for. No system stands unfinished. No memory.

@@ -48,10 +48,13 @@ mod watch_lines;
 mod watch_replies;
 mod words;
 
+pub use adding::{add_end, add_next, add_slot, add_tick};
 pub use command_lines::{after_first_line, after_last_line, take_script_line};
 pub use document::Document;
+pub use draft::Draft;
 pub use fault::TextRefused;
-pub use format::{Format, VERSION_1};
+pub use filling::{add_pool, add_row};
+pub use format::{Format, TICK_LIMIT, VERSION_1};
 pub use header::{Header, HeaderDraft};
 pub use header_printing::header_lines;
 pub use laws::{
@@ -59,7 +62,7 @@ pub use laws::{
     one_front, printed_text, printed_text_is_read_back,
 };
 pub use printing::{push_world, write_world};
-pub use reading::{Front, read_front, read_world};
+pub use reading::{Front, finished, read_front, read_world};
 pub use replies::push_reply;
 pub use row_lang::LineFault;
 pub use script::{Script, ScriptLine};
@@ -68,6 +71,7 @@ pub use script_laws::{
     scripts_keep_documents_lawful,
 };
 pub use scripts::read_script;
+pub use section::Section;
 pub use single::read_command;
 pub use system_list::SystemList;
 pub use watch_replies::{push_heard, push_unwatched, push_watched};

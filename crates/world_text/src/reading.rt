@@ -163,7 +163,8 @@ pub fn read_world(alloc: Global, bytes: &[u8]) -> Result<Document, TextRefused>
     Ok(front.document)
 }
 
-fn finished(draft: Draft) -> Document
+/// The document that a draft's lines stand for. No memory.
+pub fn finished(draft: Draft) -> Document
     ensures { result ≡ document_in draft }
 {
     let world = World {
