@@ -1,0 +1,11 @@
+pub mod BuildingLemmas
+pub mod EdgeLemmas
+pub mod ExistenceLemmas
+pub mod GraphLemmas
+pub mod ListingLemmas
+pub mod OrderLemmas
+pub mod StepLemmas
+pub mod SystemLemmas
+pub mod OrderTests
+pub mod WalkLemmas
+pub mod Worked

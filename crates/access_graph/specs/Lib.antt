@@ -1,0 +1,4 @@
+pub mod Building
+pub mod Conflicts
+pub mod Graphs
+pub mod Systems
