@@ -2,7 +2,12 @@
 use Rattle.std.proofs.Common.{◌≡◌, ◌⊎◌, inl, inr, ℕ, ◌<◌, ◌≤◌, List, length, Option, Some, IfSome, refl, sym, ap, subst, ◌∙◌, arith, ◌+◌}
 use Rattle.std.proofs.lemmas.Bool.{cases_lt}
 use Rattle.std.specs.declared.string.String.{String}
+use Rattle.access_graph.specs.declared.edge.Edge.{Edge}
+use Rattle.access_graph.specs.Graphs.{AreEdges}
+use Rattle.access_graph.proofs.EdgeLemmas.{one_list}
+use Rattle.access_graph.proofs.ExistenceLemmas.{have_edges}
 use Rattle.ecs_io.specs.Streams.{Rose, Grows}
+use Rattle.world_model.specs.declared.access.Access.{Access}
 use Rattle.world_text.specs.declared.document.Document.{Document}
 use Rattle.world_text.specs.Documents.{IsDocument, text}
 use Rattle.world_text.specs.Formats.{tick_limit, version_1}
@@ -14,11 +19,16 @@ use Rattle.world_text.proofs.UniqueLemmas.{one_document, no_bad_line, one_number
 use Rattle.world_top.specs.declared.outcome.Outcome.{Outcome}
 use Rattle.world_top.specs.declared.outcome.Outcome.TheVariants as ending
 use Rattle.world_top.specs.declared.verb.Verb.{Verb}
-use Rattle.world_top.specs.declared.verb.Verb.TheVariants.{Snapshot, Apply, Run}
+use Rattle.world_top.specs.declared.verb.Verb.TheVariants.{Snapshot, Apply, Run, Graph}
 use Rattle.world_top.specs.Endings.{input_limit, Streams, Means, MeansFor, Ends, number_of}
 use Rattle.world_top.specs.Output.{IsOutput, IsBadInput, IsPastLimit, IsRan, PassesLimit}
+use Rattle.world_top.specs.Graphed.{accesses_of, graph_text}
 use Rattle.world_top.specs.Ticking.{document_after_ticks}
 use Rattle.world_top.specs.Words.{verb_of}
+
+-- systems have one list of edges
+one_graph : (systems : List Access) (edges others : List Edge) → AreEdges systems edges → AreEdges systems others → edges ≡ others
+one_graph systems edges others a b = one_list edges others a.ordered b.ordered (λ i j has. (b.each i j).1 ((a.each i j).0 has)) (λ i j has. (a.each i j).1 ((b.each i j).0 has))
 
 pub output_is_one : (verb : Verb) (input a b : List ℕ) → IsOutput verb input a → IsOutput verb input b → a ≡ b
 output_is_one Snapshot input a b p q = p.printed ∙ ap text (one_document version_1 version_1_is_format input p.document q.document p.read q.read) ∙ sym q.printed
@@ -26,11 +36,16 @@ output_is_one Apply input a b p q =
     let same = one_scripted input p.document q.document p.script q.script p.read q.read in
     p.printed ∙ (λ i. scripted_text (same.0 i) (same.1 i)) ∙ sym q.printed
 output_is_one (Run ticks workers) input a b p q = p.printed ∙ ap (λ d. text (document_after_ticks ticks d)) (one_document version_1 version_1_is_format input p.document q.document p.read q.read) ∙ sym q.printed
+output_is_one Graph input a b p q =
+    let same = one_document version_1 version_1_is_format input p.document q.document p.read q.read in
+    let edges = one_graph (accesses_of q.document.systems) p.edges q.edges (subst (λ (d : Document). AreEdges (accesses_of d.systems) p.edges) same p.fewest) q.fewest in
+    p.printed ∙ ap (λ (d : Document). graph_text d.systems p.edges) same ∙ ap (graph_text q.document.systems) edges ∙ sym q.printed
 
 pub no_output_is_bad : (verb : Verb) (input bytes : List ℕ) (line : ℕ) → IsOutput verb input bytes → IsBadInput verb input line → ⊥
 no_output_is_bad Snapshot input bytes line o bad = no_bad_line version_1 version_1_is_format input o.document line o.read bad
 no_output_is_bad Apply input bytes line o bad = no_bad_scripted input o.document o.script line o.read bad
 no_output_is_bad (Run ticks workers) input bytes line o bad = no_bad_line version_1 version_1_is_format input o.document line o.read bad
+no_output_is_bad Graph input bytes line o bad = no_bad_line version_1 version_1_is_format input o.document line o.read bad
 
 pub no_output_is_past : (verb : Verb) (input bytes : List ℕ) → IsOutput verb input bytes → IsPastLimit verb input → ⊥
 no_output_is_past Snapshot input bytes o past = past
@@ -38,16 +53,19 @@ no_output_is_past Apply input bytes o past = past
 no_output_is_past (Run ticks workers) input bytes o past =
     let same : o.document.world.tick ≡ past.document.world.tick = ap (λ (d : Document). d.world.tick) (one_document version_1 version_1_is_format input o.document past.document o.read past.read) in
     absurd (omega (arith, same, o.within, past.past))
+no_output_is_past Graph input bytes o past = past
 
 pub no_bad_line_is_past : (verb : Verb) (input : List ℕ) (line : ℕ) → IsBadInput verb input line → IsPastLimit verb input → ⊥
 no_bad_line_is_past Snapshot input line bad past = past
 no_bad_line_is_past Apply input line bad past = past
 no_bad_line_is_past (Run ticks workers) input line bad past = no_bad_line version_1 version_1_is_format input past.document line past.read bad
+no_bad_line_is_past Graph input line bad past = past
 
 pub bad_line_is_one : (verb : Verb) (input : List ℕ) (a b : ℕ) → IsBadInput verb input a → IsBadInput verb input b → a ≡ b
 bad_line_is_one Snapshot input a b p q = one_number version_1 version_1_is_format input a b p q
 bad_line_is_one Apply input a b p q = one_bad_scripted input a b p q
 bad_line_is_one (Run ticks workers) input a b p q = one_number version_1 version_1_is_format input a b p q
+bad_line_is_one Graph input a b p q = one_number version_1 version_1_is_format input a b p q
 
 -- a document's tick number passes the limit in so many ticks, or not
 ran_or_past : (ticks : ℕ) (input : List ℕ) (document : Document) → IsDocument input document → ((bytes : List ℕ) → IsRan ticks input bytes → ⊥) → (PassesLimit ticks input → ⊥) → ⊥
@@ -64,6 +82,9 @@ answered Apply input no_output no_line not_past =
     scripted_or_bad input (λ document script read. no_output (scripted_text document script) (record { document = document; script = script; read = read; printed = refl })) no_line
 answered (Run ticks workers) input no_output no_line not_past =
     document_or_bad version_1 input (λ document read. ran_or_past ticks input document read no_output not_past) no_line
+answered Graph input no_output no_line not_past =
+    document_or_bad version_1 input (λ document read. have_edges (accesses_of document.systems) (λ edges fewest.
+    no_output (graph_text document.systems edges) (record { document = document; edges = edges; read = read; fewest = fewest; printed = refl }))) no_line
 
 -- what is known of an input holds of the one that the source told
 known : (holds : List ℕ → Type 0) (told : Option (List ℕ)) (input : List ℕ) → told ≡ Some input → IfSome told holds → holds input

@@ -2,10 +2,12 @@ pub mod CallLemmas
 pub mod ConnectLemmas
 pub mod DisconnectLemmas
 pub mod FrontLemmas
+pub mod GraphLemmas
 pub mod HearingLemmas
 pub mod LastWatches
 pub mod LawLemmas
 pub mod LiveLemmas
+pub mod OptionLemmas
 pub mod OrderTickLemmas
 pub mod PlayLemmas
 pub mod ProgressLemmas

@@ -1,6 +1,7 @@
 pub mod Words
 pub mod Ticking
 pub mod Running
+pub mod Graphed
 pub mod Output
 pub mod Endings
 pub mod Playing

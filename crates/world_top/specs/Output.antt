@@ -1,5 +1,7 @@
 -- What a command puts out for its input.
 use Rattle.std.specs.Prelude.{◌≡◌, ℕ, ◌+◌, ◌<◌, ◌≤◌, List}
+use Rattle.access_graph.specs.declared.edge.Edge.{Edge}
+use Rattle.access_graph.specs.Graphs.{AreEdges}
 use Rattle.world_text.specs.declared.document.Document.{Document}
 use Rattle.world_text.specs.declared.fault.TextRefused.{TextRefused}
 use Rattle.world_text.specs.declared.fault.TextRefused.TheVariants as refused
@@ -11,7 +13,8 @@ use Rattle.world_text.specs.Playing.{scripted_text}
 use Rattle.world_top.specs.declared.refused.InputRefused.{InputRefused}
 use Rattle.world_top.specs.declared.refused.InputRefused.TheVariants as cause
 use Rattle.world_top.specs.declared.verb.Verb.{Verb}
-use Rattle.world_top.specs.declared.verb.Verb.TheVariants.{Snapshot, Apply, Run}
+use Rattle.world_top.specs.declared.verb.Verb.TheVariants.{Snapshot, Apply, Run, Graph}
+use Rattle.world_top.specs.Graphed.{accesses_of, graph_text}
 use Rattle.world_top.specs.Ticking.{document_after_ticks}
 
 -- these bytes are what `snapshot` prints: the canonical text of the document that the input is
@@ -36,6 +39,15 @@ pub record IsRan (ticks : ℕ) (input bytes : List ℕ) : Type 0 where
   pub within : document.world.tick + ticks ≤ tick_limit
   pub printed : bytes ≡ text (document_after_ticks ticks document)
 
+-- these bytes are what `graph` prints: each system of the document that the input is, with those from which an edge leads to it. The
+-- edges are the fewest by which each system is reached from all that it must wait for
+pub record IsGraphed (input bytes : List ℕ) : Type 0 where
+  pub document : Document
+  pub edges : List Edge
+  pub read : IsDocument input document
+  pub fewest : AreEdges (accesses_of document.systems) edges
+  pub printed : bytes ≡ graph_text document.systems edges
+
 -- the input is a document whose tick number passes the limit in so many ticks
 pub record PassesLimit (ticks : ℕ) (input : List ℕ) : Type 0 where
   pub document : Document
@@ -47,18 +59,21 @@ abbrev pub IsOutput : Verb → List ℕ → List ℕ → Type 0
 IsOutput Snapshot input bytes = IsSnapshot input bytes
 IsOutput Apply input bytes = IsApplied input bytes
 IsOutput (Run ticks workers) input bytes = IsRan ticks input bytes
+IsOutput Graph input bytes = IsGraphed input bytes
 
 -- this line of the input is the first that the command does not admit, or that is missing
 abbrev pub IsBadInput : Verb → List ℕ → ℕ → Type 0
 IsBadInput Snapshot input line = IsBadLine input line
 IsBadInput Apply input line = IsBadScriptedLine input line
 IsBadInput (Run ticks workers) input line = IsBadLine input line
+IsBadInput Graph input line = IsBadLine input line
 
 -- the command would take the input's tick number past the limit, which only `run` can
 abbrev pub IsPastLimit : Verb → List ℕ → Type 0
 IsPastLimit Snapshot input = ⊥
 IsPastLimit Apply input = ⊥
 IsPastLimit (Run ticks workers) input = PassesLimit ticks input
+IsPastLimit Graph input = ⊥
 
 -- why a command does not admit this input as a text
 abbrev pub IsInputCause : Verb → List ℕ → TextRefused → Type 0

@@ -1,11 +1,12 @@
 -- Which words of the program are which command.
-use Rattle.std.specs.Prelude.{◌≡◌, ℕ, ◌&&◌, nat_le, List, [], ◌∷◌, Option, Some, None, codes, string_bytes, if◌then◌else◌}
+use Rattle.std.specs.Prelude.{◌≡◌, ℕ, ◌&&◌, nat_le, List, [], ◌∷◌, take, drop, Option, Some, None, codes, string_bytes, if◌then◌else◌}
+use Rattle.std.specs.List.{flat_map}
 use Rattle.std.specs.Fmt.{decimal}
 use Rattle.std.specs.Str.{bytes_eq}
 use Rattle.std.specs.Str.Parse.{digits_value}
 use Rattle.std.specs.declared.string.String.{String}
 use Rattle.world_top.specs.declared.verb.Verb.{Verb}
-use Rattle.world_top.specs.declared.verb.Verb.TheVariants.{Snapshot, Apply, Run}
+use Rattle.world_top.specs.declared.verb.Verb.TheVariants.{Snapshot, Apply, Run, Graph}
 
 -- the most ticks that words can ask for
 abbrev pub tick_count_limit : ℕ
@@ -27,22 +28,36 @@ run_of (Some ticks) (Some workers) = Some (Run ticks workers)
 run_of (Some ticks) None = None
 run_of None workers = None
 
+-- a run whose numbers these words spell
+abbrev pub run_spelled : List ℕ → List ℕ → Option Verb
+run_spelled ticks workers = run_of (number_between 0 tick_count_limit ticks) (number_between 1 worker_limit workers)
+
+-- a word behind `run`: an option that `=` joins with its number counts as two words
+abbrev pub apart : List ℕ → List (List ℕ)
+apart word =
+    if bytes_eq (take 8 word) (codes "--ticks=") then codes "--ticks" ∷ drop 8 word ∷ [] else
+    if bytes_eq (take 10 word) (codes "--workers=") then codes "--workers" ∷ drop 10 word ∷ [] else word ∷ []
+
+-- the words behind `run`, those apart that `=` joins
+abbrev pub options_apart : {A : Type 0} → List (String A) → List (List ℕ)
+options_apart options = flat_map (λ option. apart (string_bytes option)) options
+
+-- the run that words behind `run` ask for: both options, in either order, each before its number
+abbrev pub run_with : List (List ℕ) → Option Verb
+run_with (first ∷ x ∷ second ∷ y ∷ []) =
+    if bytes_eq first (codes "--ticks") && bytes_eq second (codes "--workers") then run_spelled x y else
+    if bytes_eq first (codes "--workers") && bytes_eq second (codes "--ticks") then run_spelled y x else None
+run_with _ = None
+
 -- the command of one word, which names it
 abbrev pub verb_named : List ℕ → Option Verb
 verb_named name =
     if bytes_eq name (codes "snapshot") then Some Snapshot else
-    if bytes_eq name (codes "apply") then Some Apply else None
-
--- the command of five words: `run`, and each of its two options before its number
-abbrev pub run_named : List ℕ → List ℕ → List ℕ → List ℕ → List ℕ → Option Verb
-run_named name first ticks second workers =
-    if bytes_eq name (codes "run") && (bytes_eq first (codes "--ticks") && bytes_eq second (codes "--workers"))
-    then run_of (number_between 0 tick_count_limit ticks) (number_between 1 worker_limit workers)
-    else None
+    if bytes_eq name (codes "apply") then Some Apply else
+    if bytes_eq name (codes "graph") then Some Graph else None
 
 -- the command that words are
 abbrev pub verb_of : {A : Type 0} → List (String A) → Option Verb
+verb_of [] = None
 verb_of (word ∷ []) = verb_named (string_bytes word)
-verb_of (name ∷ first ∷ ticks ∷ second ∷ workers ∷ []) =
-    run_named (string_bytes name) (string_bytes first) (string_bytes ticks) (string_bytes second) (string_bytes workers)
-verb_of _ = None
+verb_of (name ∷ options) = if bytes_eq (string_bytes name) (codes "run") then run_with (options_apart options) else None

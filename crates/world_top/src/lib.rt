@@ -8,7 +8,9 @@
 #![tactic(auto)]
 
 mod apply;
+mod graph;
 mod laws;
+mod options;
 mod outcome;
 mod output_laws;
 mod perform;

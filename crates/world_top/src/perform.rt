@@ -3,6 +3,7 @@ ghost use Rattle.world_top.specs.Endings.{Means, WasRead, IsRefusal, outcome_for
 ghost use Rattle.world_top.specs.Output.{IsOutput, IsOutputCause};
 
 use super::apply::apply;
+use super::graph::graph;
 use super::refused::InputRefused;
 use super::run::run;
 use super::snapshot::snapshot;
@@ -82,5 +83,6 @@ fn output_of(alloc: Global, verb: Verb, input: Vec<u8>) -> Result<Vec<u8>, Input
         Verb::Snapshot => Ok(snapshot(alloc, input)?),
         Verb::Apply => Ok(apply(alloc, &input)?),
         Verb::Run { ticks, .. } => run(alloc, ticks, input),
+        Verb::Graph => Ok(graph(alloc, input)?),
     }
 }

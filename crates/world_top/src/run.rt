@@ -24,10 +24,7 @@ use std::alloc::Global;
 use system_eval::RowSystem;
 use tick_runner::tick_plain;
 use world_model::World;
-use world_text::{Document, VERSION_1};
-
-// The greatest tick number.
-const TICK_LIMIT: u64 = 1_000_000_000_000;
+use world_text::{Document, TICK_LIMIT, VERSION_1};
 
 /// What `run` prints for an input: the canonical text of the document that it is, after so many ticks of
 /// its systems. One thread carries them out.

@@ -11,6 +11,7 @@ use std::test::Fail;
 
 mod apply;
 mod calls;
+mod graph;
 mod groups;
 mod running;
 mod snapshot;

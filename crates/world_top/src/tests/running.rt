@@ -110,8 +110,30 @@ fn a_bad_line_comes_before_the_tick_limit(rt: HostRuntime) -> Result<(), Fail> {
 }
 
 #[test]
+fn options_stand_in_either_order_with_a_space_or_an_equals_sign(
+    rt: HostRuntime,
+) -> Result<(), Fail> {
+    let after = b"world 1\ntick 3\nend\n";
+    let rows: [&[&str]; 8] = [
+        &["run", "--ticks", "3", "--workers", "2"],
+        &["run", "--ticks=3", "--workers", "2"],
+        &["run", "--ticks", "3", "--workers=2"],
+        &["run", "--ticks=3", "--workers=2"],
+        &["run", "--workers", "2", "--ticks", "3"],
+        &["run", "--workers=2", "--ticks", "3"],
+        &["run", "--workers", "2", "--ticks=3"],
+        &["run", "--workers=2", "--ticks=3"],
+    ];
+    for words in rows {
+        let run = plain_run(rt.alloc(), words, source(rt.alloc(), EMPTY, 4, &[])?, 100)?;
+        expect(&rt, &run, 0, after, b"");
+    }
+    Ok(())
+}
+
+#[test]
 fn other_words_run_nothing(rt: HostRuntime) -> Result<(), Fail> {
-    let rows: [&[&str]; 13] = [
+    let rows: [&[&str]; 16] = [
         &["run"],
         &["run", "--ticks", "3"],
         &["run", "--ticks", "3", "--workers"],
@@ -122,8 +144,11 @@ fn other_words_run_nothing(rt: HostRuntime) -> Result<(), Fail> {
         &["run", "--ticks", "+3", "--workers", "1"],
         &["run", "--ticks", "", "--workers", "1"],
         &["run", "--ticks", "1000001", "--workers", "1"],
-        &["run", "--workers", "1", "--ticks", "3"],
-        &["run", "--ticks=3", "--workers=1"],
+        &["run", "--ticks", "3", "--ticks", "3"],
+        &["run", "--workers=1", "--workers=1"],
+        &["run", "--ticks=3", "--workers=1", "--ticks=3"],
+        &["run", "--ticks=", "3", "--workers=1"],
+        &["run", "--ticks", "--workers=1", "3"],
         &["run", "--ticks", "3", "--workers", "1", "--workers"],
     ];
     for words in rows {
