@@ -205,6 +205,29 @@ def write_arena(out: TextIO, entities: int) -> None:
     out.write("end\n")
 
 
+def write_graph(out: TextIO, systems: int) -> None:
+    """Writes a document without entities: 64 components, and systems that name 16 of them, of which each writes two."""
+    draws = Draws(systems)
+    out.write("world 1\n" + "".join(f"component c{number} int\n" for number in range(64)))
+    for system in range(systems):
+        named = sorted(range(64), key=lambda _: draws.unit())[:16]
+        lists = [("read", named[:10]), ("write", named[10:12]), ("look", named[12:])]
+        out.write(f"system s{system}\n")
+        for word, components in lists:
+            out.write(" ".join([word, *(f"c{number}" for number in sorted(components))]) + "\n")
+        out.write("end\n")
+    out.write("tick 0\n" + "".join(f"pool c{number}\n" for number in range(64)) + "end\n")
+
+
+def write_chain(out: TextIO, systems: int) -> None:
+    """Writes a document without entities: systems that write the same 16 components, so that all conflict."""
+    names = [f"c{number}" for number in range(16)]
+    out.write("world 1\n" + "".join(f"component {name} int\n" for name in names))
+    for system in range(systems):
+        out.write(f"system s{system}\nwrite {' '.join(names)}\nend\n")
+    out.write("tick 0\n" + "".join(f"pool {name}\n" for name in names) + "end\n")
+
+
 class Workload(NamedTuple):
     """What is measured: the program's words, what its input counts, how many of it, and what writes so many."""
 
@@ -219,6 +242,8 @@ WORKLOADS = [
     Workload("snapshot", ["snapshot"], "entities", 1_000_000, write_plain_document),
     Workload("apply", ["apply"], "commands", 1_000_000, write_script),
     Workload("run", ["run", "--ticks", "50", "--workers", "1"], "entities", 100_000, write_arena),
+    Workload("graph", ["graph"], "systems", 64, write_graph),
+    Workload("chain", ["graph"], "systems", 64, write_chain),
 ]
 
 
