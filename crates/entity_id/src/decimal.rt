@@ -1,6 +1,9 @@
-ghost use Rattle.std.specs.Prelude.{List, ◌≡◌, ℕ, ◌+◌, ◌-◌, ◌*◌, ◌<◌, ◌≤◌, ◌≢◌, ◌↔◌, IsTrue, IfSome, IfNone, SomeIff, length, slice_index};
+ghost use Rattle.std.specs.Prelude.{List, ◌≡◌, ℕ, ◌+◌, ◌-◌, ◌*◌, ◌<◌, ◌≤◌, ◌≢◌, ◌↔◌, ◌⊎◌, IsTrue, IfSome, IfNone, SomeIff, length, drop, slice_index};
 ghost use Rattle.std.specs.Fmt.{decimal};
-ghost use Rattle.entity_id.specs.Texts.{EndsNumber, IsNumberFirst};
+ghost use Rattle.entity_id.specs.Texts.{BeginsWithDigits, EndsNumber, IsNumberFirst};
+
+// Numbers of so many digits have 64 bits.
+const SURE_DIGITS: usize = 19;
 
 // A leading zero before other digits.
 fn is_padded(token: &[u8]) -> bool
@@ -35,6 +38,55 @@ pub(super) fn ends_number(text: &[u8]) -> bool
     digit_at(text, 0).is_none()
 }
 
+// The digits at the front of a text, and the value of each number that they spell: all of them, or as
+// many as surely have a value of 64 bits.
+fn first_digits(text: &[u8]) -> (u64, usize)
+    ensures digits { BeginsWithDigits text.now result.0 result.1 }
+    ensures all { EndsNumber (drop result.1 text.now) ⊎ (result.1 ≡ 19) }
+{
+    let front = &text[..text.len().min(SURE_DIGITS)];
+    let mut number = 0;
+    let mut at = 0;
+    while let Some(digit) = digit_at(front, at) {
+        number = 10 * number + u64::from(digit);
+        at += 1;
+    }
+    (number, at)
+}
+
+// The digits at the front of a text, and their value, once so many of this value are known. None where
+// that is above `limit`.
+fn more_digits(text: &[u8], limit: u64, number: u64, known: usize) -> Option<(u64, usize)>
+    requires { BeginsWithDigits text.now number known }
+    ensures some { IfSome result (λ x.
+        BeginsWithDigits text.now x.0 x.1 × EndsNumber (drop x.1 text.now)) }
+    ensures none { IfNone result
+        ((n : ℕ) (rest : List ℕ) → IsNumberFirst limit text.now n rest → ⊥) }
+{
+    let mut number = number;
+    let mut at = known;
+    while let Some(digit) = digit_at(text, at) {
+        number = with_digit(number, digit, limit)?;
+        at += 1;
+    }
+    Some((number, at))
+}
+
+// The digits at the front of a text, and their value. None only where no number of at most `limit`
+// stands there.
+fn take_digits(text: &[u8], limit: u64) -> Option<(u64, usize)>
+    ensures some { IfSome result (λ x.
+        BeginsWithDigits text.now x.0 x.1 × EndsNumber (drop x.1 text.now)) }
+    ensures none { IfNone result
+        ((n : ℕ) (rest : List ℕ) → IsNumberFirst limit text.now n rest → ⊥) }
+{
+    let (number, count) = first_digits(text);
+    if count < SURE_DIGITS {
+        return Some((number, count));
+    }
+    more_digits(text, limit, number, count)
+}
+
 /// The number at the front of a text, in decimal without sign and without a leading zero, as far as
 /// its digits go, and what stands behind it. None exactly where the text begins with no number of at
 /// most `limit`. No memory.
@@ -43,16 +95,11 @@ pub fn take_nat(text: &[u8], limit: u64) -> Option<(u64, &[u8])>
     ensures none { IfNone result
         ((n : ℕ) (rest : List ℕ) → IsNumberFirst limit text.now n rest → ⊥) }
 {
-    let mut number = 0;
-    let mut at = 0;
-    while let Some(digit) = digit_at(text, at) {
-        number = with_digit(number, digit, limit)?;
-        at += 1;
-    }
-    if at == 0 || is_padded(&text[..at]) {
+    let (number, count) = take_digits(text, limit)?;
+    if number > limit || count == 0 || is_padded(&text[..count]) {
         return None;
     }
-    Some((number, &text[at..]))
+    Some((number, &text[count..]))
 }
 
 /// The number that a text spells in decimal, without sign and without a leading zero. None exactly
