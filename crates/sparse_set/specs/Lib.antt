@@ -1,3 +1,4 @@
 pub mod PackedSets
 pub mod WalkOrders
+pub mod Pages
 pub mod Places

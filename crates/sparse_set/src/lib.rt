@@ -11,6 +11,7 @@
 
 mod arrange;
 mod order;
+mod pages;
 mod places;
 mod refusals;
 mod sparse_set;

@@ -1,4 +1,4 @@
-//! A packed list, and the list that has each identifier's place under its index.
+//! A packed list, and the pages that have each identifier's place under its index.
 
 ghost use Rattle.std.specs.Prelude.{◌≡◌, ℕ, ◌+◌, ◌<◌, ◌≤◌, ◌^◌, [], ◌∷◌, ◌++◌, List, length, Some, false, IsOk, OnOk, IfSome, slice_get};
 ghost use Rattle.std.specs.List.{swap};
@@ -6,8 +6,10 @@ ghost use Rattle.std.specs.Vec.{vec_capacity};
 ghost use Rattle.entity_id.specs.declared.entity.Entity.{Entity};
 ghost use Rattle.entity_id.specs.PackedLists.{place_of, swap_popped};
 ghost use Rattle.sparse_set.specs.PackedSets.{has_index, AreDistinct};
+ghost use Rattle.sparse_set.specs.Pages.{HasPlace, AreMadeBelow};
 ghost use Rattle.sparse_set.specs.Places.{ArePlaced};
 
+use crate::pages::Pages;
 use entity_id::{Entity, OutOfMemory};
 
 // What stands at a place.
@@ -18,22 +20,22 @@ pub fn item_at<T: Copy>(list: &[T], place: usize) -> Option<T>
 }
 
 // The place of an identifier.
-pub fn place_in(packed: &[Entity], places: &[u32], entity: Entity) -> Option<u32>
-    requires { ArePlaced packed.now places.now }
+pub fn place_in(packed: &[Entity], pages: &Pages, entity: Entity) -> Option<u32>
+    requires { ArePlaced packed.now pages.now }
     ensures place { result ≡ place_of packed.now entity }
     ensures here { IfSome result (λ place. slice_get packed.now place ≡ Some entity) }
 {
-    let place = item_at(places, entity.index as usize)?;
+    let place = pages.get(entity.index)?;
     let found = item_at(packed, place as usize)?;
     if found == entity { Some(place) } else { None }
 }
 
 // Whether an identifier with this index is contained.
-pub fn has_index_in(packed: &[Entity], places: &[u32], index: u32) -> bool
-    requires { ArePlaced packed.now places.now }
+pub fn has_index_in(packed: &[Entity], pages: &Pages, index: u32) -> bool
+    requires { ArePlaced packed.now pages.now }
     ensures { result ≡ has_index packed.now index }
 {
-    let Some(place) = item_at(places, index as usize) else {
+    let Some(place) = pages.get(index) else {
         return false;
     };
     match item_at(packed, place as usize) {
@@ -58,65 +60,54 @@ pub fn reserve_packed(packed: &mut Vec<Entity>, n: usize) -> Result<(), OutOfMem
     Ok(())
 }
 
-// Makes the list of places at least so long.
-pub fn grow(places: &mut Vec<u32>, len: usize) -> Result<(), OutOfMemory>
-    ensures placed { (packed : List Entity) →
-        ArePlaced packed places.old.items → ArePlaced packed places.new.items }
-    ensures ok { OnOk result (len ≤ length places.new.items) }
-    ensures ready { len ≤ length places.old.items → IsOk result }
-    ensures longer { length places.old.items ≤ length places.new.items }
-{
-    if places.len() < len {
-        places.resize(len, 0)?;
-    }
-    Ok(())
-}
-
-pub fn append(packed: &mut Vec<Entity>, places: &mut Vec<u32>, entity: Entity)
-    requires placed { ArePlaced packed.old.items places.old.items }
+#[tactic(auto, using(crate::proofs::PageLemmas::made_after_put))]
+pub fn append(packed: &mut Vec<Entity>, pages: &mut Pages, entity: Entity)
+    requires placed { ArePlaced packed.old.items pages.old }
     requires absent { has_index packed.old.items entity.index ≡ false }
     requires room { length packed.old.items < vec_capacity packed.old }
     requires few { length packed.old.items + 1 < 2 ^ 32 }
-    requires within { entity.index < length places.old.items }
+    requires within { HasPlace pages.old entity.index }
     ensures list { packed.new.items ≡ packed.old.items ++ entity ∷ [] }
     ensures distinct { AreDistinct packed.new.items }
-    ensures placed { ArePlaced packed.new.items places.new.items }
+    ensures placed { ArePlaced packed.new.items pages.new }
     ensures capacity { vec_capacity packed.old ≤ vec_capacity packed.new }
-    ensures places { length places.new.items ≡ length places.old.items }
+    ensures made { (bound : ℕ) → AreMadeBelow pages.old bound → AreMadeBelow pages.new bound }
 {
-    places[entity.index as usize] = packed.len() as u32;
+    pages.set(entity.index, packed.len() as u32);
     let _ = packed.push(entity);
 }
 
-pub fn exchange(packed: &mut Vec<Entity>, places: &mut Vec<u32>, a: u32, b: u32)
-    requires placed { ArePlaced packed.old.items places.old.items }
+#[tactic(auto, using(crate::proofs::PageLemmas::made_after_put))]
+pub fn exchange(packed: &mut Vec<Entity>, pages: &mut Pages, a: u32, b: u32)
+    requires placed { ArePlaced packed.old.items pages.old }
     requires a { a < length packed.old.items }
     requires b { b < length packed.old.items }
     ensures list { packed.new.items ≡ swap packed.old.items a b }
     ensures distinct { AreDistinct packed.new.items }
     ensures capacity { vec_capacity packed.new ≡ vec_capacity packed.old }
-    ensures places { length places.new.items ≡ length places.old.items }
-    ensures placed { ArePlaced packed.new.items places.new.items }
+    ensures made { (bound : ℕ) → AreMadeBelow pages.old bound → AreMadeBelow pages.new bound }
+    ensures placed { ArePlaced packed.new.items pages.new }
 {
-    let first = packed[a as usize].index as usize;
-    let second = packed[b as usize].index as usize;
-    places[first] = b;
-    places[second] = a;
+    let first = packed[a as usize].index;
+    let second = packed[b as usize].index;
+    pages.set(first, b);
+    pages.set(second, a);
     packed.swap(a as usize, b as usize);
 }
 
 // The last identifier takes the place of the one that goes, whose own place under its index is no
 // longer read: whoever reads it finds another identifier there, or nothing.
-pub fn take_out(packed: &mut Vec<Entity>, places: &mut Vec<u32>, place: u32)
-    requires placed { ArePlaced packed.old.items places.old.items }
+#[tactic(auto, using(crate::proofs::PageLemmas::made_after_put))]
+pub fn take_out(packed: &mut Vec<Entity>, pages: &mut Pages, place: u32)
+    requires placed { ArePlaced packed.old.items pages.old }
     requires within { place < length packed.old.items }
     ensures list { packed.new.items ≡ swap_popped packed.old.items place }
     ensures distinct { AreDistinct packed.new.items }
-    ensures placed { ArePlaced packed.new.items places.new.items }
+    ensures placed { ArePlaced packed.new.items pages.new }
     ensures capacity { vec_capacity packed.new ≡ vec_capacity packed.old }
-    ensures places { length places.new.items ≡ length places.old.items }
+    ensures made { (bound : ℕ) → AreMadeBelow pages.old bound → AreMadeBelow pages.new bound }
 {
     let last = packed[packed.len() - 1];
-    places[last.index as usize] = place;
+    pages.set(last.index, place);
     let _ = packed.swap_remove(place as usize);
 }

@@ -7,6 +7,7 @@ ghost use Rattle.sparse_set.specs.WalkOrders.{IsWalkOrder};
 mod changes;
 
 use crate::order::walk_order;
+use crate::pages::Pages;
 use crate::places::{has_index_in, place_in};
 use entity_id::{Entities, Entity, OutOfMemory};
 use std::alloc::Global;
@@ -18,9 +19,10 @@ use std::marker::Model;
 #[derive(Drop)]
 pub struct SparseSet {
     packed: Vec<Entity>,
-    // Under the index of each packed identifier its place; any number elsewhere.
-    places: Vec<u32>,
+    // Under the index of each packed identifier its place; nothing or any number elsewhere.
+    pages: Pages,
     spare: usize,
+    // The page of each index below it is made.
     index_bound: u32,
 }
 
@@ -44,7 +46,7 @@ impl SparseSet {
     {
         SparseSet {
             packed: Vec::new(alloc),
-            places: Vec::new(alloc),
+            pages: Pages::new(alloc),
             spare: 0,
             index_bound: 0,
         }
@@ -87,7 +89,7 @@ impl SparseSet {
         ensures place { result ≡ place_of self.now.list entity }
         ensures here { IfSome result (λ place. slice_get self.now.list place ≡ Some entity) }
     {
-        place_in(&self.packed, &self.places, entity)
+        place_in(&self.packed, &self.pages, entity)
     }
 
     /// Whether an identifier is contained, in index and version. No memory. (EnTT: `contains`.)
@@ -102,7 +104,14 @@ impl SparseSet {
     pub fn has_index(&self, index: u32) -> bool
         ensures { result ≡ has_index self.now.list index }
     {
-        has_index_in(&self.packed, &self.places, index)
+        has_index_in(&self.packed, &self.pages, index)
+    }
+
+    /// How many pages of 4,096 indices in a row stand. A page takes memory once an index of it is
+    /// first pushed or reserved, and stays. No memory. (EnTT: the pages of the sparse array, of
+    /// `ENTT_SPARSE_PAGE` entries each; `extent` counts those that don't stand too.)
+    pub fn pages(&self) -> u32 {
+        self.pages.count()
     }
 
     /// The first `n` identifiers so ordered that the walk from the back of the order to its front

@@ -109,3 +109,31 @@ fn orders_in<G: Ledger>(rt: &impl Abort, alloc: Global, blank: Blank) -> Result<
     assert_eq!(rt; set.index_of(entity(3, 0)), Some(1));
     Ok(())
 }
+
+#[test]
+fn a_page_is_made_once_an_index_of_it_is_pushed_or_reserved(rt: HostRuntime) {
+    pages_in::<Brand>(&rt, rt.alloc(), Blank::new(1));
+}
+
+fn pages_in<G: Ledger>(rt: &impl Abort, alloc: Global, blank: Blank)
+    requires name { blank.name ≡ G.name }
+    requires parts { blank.parts ≡ G.parts }
+    requires some { 0 < blank.parts }
+{
+    let mut steps = Steps::<G>::new(blank);
+    let mut set = SparseSet::new(alloc);
+    assert_eq!(rt; set.pages(), 0);
+    for (index, pages) in [(1_048_574, 1), (0, 2), (4_095, 2), (4_096, 3)] {
+        assert_eq!(rt; set.push(entity(index, 0), &mut steps), Ok(()));
+        assert_eq!(rt; set.pages(), pages, "{index}");
+    }
+    for index in [1_048_574, 0, 4_095, 4_096] {
+        assert!(rt;
+            set.swap_pop(entity(index, 0), &mut steps).is_ok(),
+            "{index}"
+        );
+        assert_eq!(rt; set.pages(), 3, "{index}");
+    }
+    assert_eq!(rt; set.reserve(1, 8_193), Ok(()));
+    assert_eq!(rt; set.pages(), 4);
+}

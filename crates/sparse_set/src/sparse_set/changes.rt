@@ -9,7 +9,8 @@ ghost use Rattle.sparse_set.specs.PackedSets.{has_index, AreDistinct};
 
 use super::SparseSet;
 use crate::arrange::bring_all;
-use crate::places::{append, exchange, grow, has_index_in, place_in, reserve_packed, take_out};
+use crate::pages::PAGE;
+use crate::places::{append, exchange, has_index_in, place_in, reserve_packed, take_out};
 use crate::refusals::{Absent, PushRefused};
 use crate::steps::Steps;
 use entity_id::{Entity, OutOfMemory};
@@ -19,6 +20,7 @@ impl SparseSet {
     /// Makes room for at least `n` reserved pushes of indices below `index_bound`, and for no fewer
     /// than before. `OutOfMemory` also where the identifiers would be 2^32 or more, and never where
     /// that room stands. Takes memory. (EnTT: `reserve`.)
+    #[tactic(auto, using(crate::proofs::PlaceLemmas::placed_still, crate::proofs::PageLemmas::all_made_still))]
     pub fn reserve(&mut self, n: u32, index_bound: u32) -> Result<(), OutOfMemory>
         ensures list { self.new.list ≡ self.old.list }
         ensures spare { OnOk result (self.new.spare ≡ max self.old.spare n) }
@@ -30,7 +32,7 @@ impl SparseSet {
         let spare = self.spare.max(n as usize);
         reserve_packed(&mut self.packed, spare)?;
         let bound = self.index_bound.max(index_bound);
-        grow(&mut self.places, bound as usize)?;
+        self.pages.make_below(self.index_bound, bound)?;
         self.spare = spare;
         self.index_bound = bound;
         Ok(())
@@ -39,6 +41,7 @@ impl SparseSet {
     /// Appends an identifier: one step, and one reserved push less, if any is left. `Present`
     /// exactly where an identifier of its index is contained. `OutOfMemory`, but never where a push
     /// is reserved and the index is below the bound. Takes memory. (EnTT: `emplace`.)
+    #[tactic(auto, using(crate::proofs::PlaceLemmas::placed_still, crate::proofs::PageLemmas::all_made_still))]
     pub fn push<G: Ledger>(
         &mut self,
         entity: Entity,
@@ -56,17 +59,17 @@ impl SparseSet {
         ensures bound { self.new.index_bound ≡ self.old.index_bound }
         ensures steps { steps.new ≡ steps.old + (if is_ok result then 1 else 0) }
     {
-        if has_index_in(&self.packed, &self.places, entity.index) {
+        if has_index_in(&self.packed, &self.pages, entity.index) {
             return Err(PushRefused::Present);
         }
         let spare = self.spare.max(1);
-        if grow(&mut self.places, entity.index as usize + 1).is_err()
+        if self.pages.make(entity.index / PAGE).is_err()
             || reserve_packed(&mut self.packed, spare).is_err()
         {
             return Err(PushRefused::OutOfMemory);
         }
         self.spare = spare - 1;
-        append(&mut self.packed, &mut self.places, entity);
+        append(&mut self.packed, &mut self.pages, entity);
         steps.tick();
         Ok(())
     }
@@ -84,7 +87,7 @@ impl SparseSet {
         ensures steps { steps.new ≡ steps.old + 1 }
     {
         self.spare -= 1;
-        append(&mut self.packed, &mut self.places, entity);
+        append(&mut self.packed, &mut self.pages, entity);
         steps.tick();
     }
 
@@ -99,7 +102,7 @@ impl SparseSet {
         ensures bound { self.new.index_bound ≡ self.old.index_bound }
         ensures steps { steps.new ≡ steps.old + 1 }
     {
-        exchange(&mut self.packed, &mut self.places, a, b);
+        exchange(&mut self.packed, &mut self.pages, a, b);
         steps.tick();
     }
 
@@ -119,10 +122,10 @@ impl SparseSet {
         ensures bound { self.new.index_bound ≡ self.old.index_bound }
         ensures steps { steps.new ≡ steps.old + (if is_ok result then 1 else 0) }
     {
-        let Some(place) = place_in(&self.packed, &self.places, entity) else {
+        let Some(place) = place_in(&self.packed, &self.pages, entity) else {
             return Err(Absent);
         };
-        take_out(&mut self.packed, &mut self.places, place);
+        take_out(&mut self.packed, &mut self.pages, place);
         self.spare += 1;
         steps.tick();
         Ok(place)
