@@ -1,13 +1,13 @@
--- How many slots are free: as many as the free list has entries.
-use Rattle.std.proofs.Common.{◌≡◌, ℕ, zero, suc, ◌+◌, ◌<◌, ◌≤◌, true, false, not, eqb, inl, inr, List, [], ◌∷◌, length, refl, sym, ap, ap₂, ◌∙◌, arith}
+-- How many slots are free, as many as the free list has entries, and how many are live.
+use Rattle.std.proofs.Common.{◌≡◌, ℕ, zero, suc, ◌+◌, ◌<◌, ◌≤◌, true, false, not, eqb, inl, inr, List, [], ◌∷◌, ◌++◌, set, replicate, length, length-set, refl, sym, ap, ap₂, ◌∙◌, arith}
 use Rattle.std.specs.Prelude.{count_by}
 use Rattle.std.specs.Option.{option_map_or}
-use Rattle.std.proofs.lemmas.List.Sums.{sum_by-cons, count_by-le-length}
+use Rattle.std.proofs.lemmas.List.Sums.{sum_by-cons, sum_by-append, count_by-le-length}
 use Rattle.std.proofs.lemmas.Bool.{cases_lt, eq-eqb}
 use Rattle.std.proofs.lemmas.Bool.Decides.{nat_tests}
 use Rattle.std.proofs.lemmas.Option.{slice_get_past}
 use Rattle.world_model.specs.declared.slot.Slot.{Slot}
-use Rattle.world_model.specs.Slots.{is_live_at, is_free_at}
+use Rattle.world_model.specs.Slots.{is_live_at, is_free_at, live_slot, free_slot}
 use Rattle.world_model.proofs.SlotLemmas.{bit, count_cons}
 
 -- how often an index stands on a list
@@ -110,3 +110,53 @@ fewer_free (slot ∷ slots) (suc i) live =
     let rest = fewer_free slots i live in
     let here : bit (not slot.live) ≤ 1 = elim slot.live as (λ b. bit (not b) ≤ 1) [ true ↦ omega arith | false ↦ omega arith ] in
     omega arith
+
+-- ---- how many are live, after a change
+
+-- how many slots are live
+abbrev pub live_count : List Slot → ℕ
+live_count slots = count_by (λ slot. slot.live) slots
+
+live_count-cons : (slot : Slot) (slots : List Slot) → live_count (slot ∷ slots) ≡ bit slot.live + live_count slots
+live_count-cons slot slots = sum_by-cons (λ (it : Slot). bit it.live) slot slots
+
+pub live_count-freed : (slots : List Slot) (i version : ℕ) → is_live_at slots i ≡ true → live_count (set slots i (free_slot version)) + 1 ≡ live_count slots
+live_count-freed [] i version live = cc
+live_count-freed (slot ∷ slots) zero version live =
+    let was : bit slot.live ≡ 1 = ap bit live in omega (arith, live_count-cons slot slots, live_count-cons (free_slot version) slots)
+live_count-freed (slot ∷ slots) (suc i) version live =
+    let rest = live_count-freed slots i version live in
+    omega (arith, live_count-cons slot slots, live_count-cons slot (set slots i (free_slot version)))
+
+pub live_count-taken : (slots : List Slot) (i version : ℕ) → is_free_at slots i ≡ true → live_count (set slots i (live_slot version)) ≡ live_count slots + 1
+live_count-taken [] i version free = cc
+live_count-taken (slot ∷ slots) zero version free =
+    let was : bit slot.live ≡ 0 = elim slot.live as (λ b. not b ≡ true → bit b ≡ 0) [ true ↦ λ no. cc | false ↦ λ _. refl ] free in
+    omega (arith, live_count-cons slot slots, live_count-cons (live_slot version) slots)
+live_count-taken (slot ∷ slots) (suc i) version free =
+    let rest = live_count-taken slots i version free in
+    omega (arith, live_count-cons slot slots, live_count-cons slot (set slots i (live_slot version)))
+
+-- one live slot more, behind so many free ones
+pub live_count-past : (slots : List Slot) (gap version : ℕ) → live_count (slots ++ replicate gap (free_slot 0) ++ live_slot version ∷ []) ≡ live_count slots + 1
+live_count-past slots gap version =
+    let last : live_count (live_slot version ∷ []) ≡ 1 = refl in
+    let none : live_count (replicate gap (free_slot 0)) ≡ 0 = no_live gap in
+    omega (arith, sum_by-append (λ (it : Slot). bit it.live) (slots ++ replicate gap (free_slot 0)) (live_slot version ∷ []), sum_by-append (λ (it : Slot). bit it.live) slots (replicate gap (free_slot 0)))
+  where
+    no_live : (n : ℕ) → live_count (replicate n (free_slot 0)) ≡ 0
+    no_live zero = refl
+    no_live (suc n) = let rest = no_live n in omega (arith, live_count-cons (free_slot 0) (replicate n (free_slot 0)))
+
+pub live_count-push : (slots : List Slot) (version : ℕ) → live_count (slots ++ live_slot version ∷ []) ≡ live_count slots + 1
+live_count-push slots version = sum_by-append (λ (it : Slot). bit it.live) slots (live_slot version ∷ [])
+
+-- where a slot is free, fewer are live than there are
+pub fewer_live : (slots : List Slot) (i : ℕ) → is_free_at slots i ≡ true → live_count slots < length slots
+fewer_live slots i free =
+    let more = live_count-taken slots i 0 free in
+    omega (arith, length-set slots i (live_slot 0), count_by-le-length (λ (it : Slot). it.live) (set slots i (live_slot 0)))
+
+-- and where one is live, that one is counted
+pub some_live : (slots : List Slot) (i : ℕ) → is_live_at slots i ≡ true → 0 < live_count slots
+some_live slots i live = let less = live_count-freed slots i 0 live in omega arith

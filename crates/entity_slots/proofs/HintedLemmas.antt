@@ -1,13 +1,10 @@
--- What a hint makes of the slots and the free list, which a vector holds in reverse.
-use Rattle.std.proofs.Common.{◌≡◌, ℕ, zero, suc, ◌+◌, ◌<◌, ◌≤◌, Bool, true, false, cond, not, ◌||◌, ltb, eqb, List, [], ◌∷◌, ◌++◌, length, replicate, reverse, refl, sym, ap, subst, ◌∙◌, arith, add-zero, append-nil}
-use Rattle.std.specs.Prelude.{filter}
+-- What a hint makes of the slots and the free list.
+use Rattle.std.proofs.Common.{◌≡◌, ℕ, zero, suc, ◌+◌, ◌<◌, ◌≤◌, true, false, cond, not, ◌||◌, ltb, List, [], ◌∷◌, ◌++◌, length, replicate, refl, sym, ap, subst, ◌∙◌, arith, add-zero}
 use Rattle.std.specs.List.{range_with_len}
 use Rattle.std.proofs.lemmas.Bool.{or_parts, not-false, ltb-true, lt-ltb, le-ltb}
-use Rattle.std.proofs.lemmas.List.{reverse-append}
-use Rattle.std.proofs.lemmas.List.Elements.{filter-append}
 use Rattle.entity_id.specs.declared.entity.Entity.{Entity}
 use Rattle.world_model.specs.declared.slot.Slot.{Slot}
-use Rattle.world_model.specs.Slots.{AreLawfulSlots, Creation, is_live_at, plain_creation, creation_as_hinted, creation_at_free_index, creation_past_end}
+use Rattle.world_model.specs.Slots.{AreLawfulSlots, Creation, is_free_at, is_live_at, plain_creation, creation_as_hinted, creation_at_free_index, creation_past_end}
 use Rattle.world_model.proofs.HintLemmas.{taken_slots}
 use Rattle.entity_slots.specs.SlotLists.{SlotLists, lists_with_spare, AreLawful, is_plain, created_by}
 use Rattle.entity_slots.proofs.CreationLemmas.{some_version}
@@ -26,20 +23,13 @@ pub replicate-more : {X : Type 0} (n : ℕ) (x : X) → replicate (suc n) x ≡ 
 replicate-more zero x = refl
 replicate-more (suc n) x = ap (λ rest. x ∷ rest) (replicate-more n x)
 
--- a filter keeps the order, also from the back
-pub filter-reverse : {X : Type 0} (test : X → Bool) (xs : List X) → filter test (reverse xs) ≡ reverse (filter test xs)
-filter-reverse test [] = refl
-filter-reverse test (x ∷ xs) =
-    ap (filter test) (reverse-append (x ∷ []) xs)
-    ∙ filter-append test (reverse xs) (x ∷ [])
-    ∙ ap (λ front. front ++ filter test (x ∷ [])) (filter-reverse test xs)
-    ∙ kept (test x)
-  where
-    kept : (b : Bool) → reverse (filter test xs) ++ cond b (x ∷ []) [] ≡ reverse (cond b (x ∷ filter test xs) (filter test xs))
-    kept true = sym (reverse-append (x ∷ []) (filter test xs))
-    kept false = append-nil _
-
 -- ---- a hint that is taken
+
+-- a slot that isn't live is free
+not_live_free : (slots : List Slot) (i : ℕ) → i < length slots → is_live_at slots i ≡ false → is_free_at slots i ≡ true
+not_live_free [] i within dead = absurd (omega arith)
+not_live_free (slot ∷ slots) zero within dead = ap not dead
+not_live_free (slot ∷ slots) (suc i) within dead = not_live_free slots i (omega arith) dead
 
 module _ (lists : SlotLists) (hint : Entity) (fresh : is_plain lists hint ≡ false) where
   taken : created_by lists hint ≡ creation_as_hinted lists.slots lists.free hint
@@ -49,13 +39,6 @@ module _ (lists : SlotLists) (hint : Entity) (fresh : is_plain lists hint ≡ fa
   pub at_free_index : hint.index < length lists.slots → created_by lists hint ≡ creation_at_free_index lists.slots lists.free hint
   at_free_index within =
       taken ∙ ap (λ b. cond b (creation_at_free_index lists.slots lists.free hint) (creation_past_end lists.slots lists.free hint)) (lt-ltb hint.index (length lists.slots) within)
-
-  -- and then the free list, as a vector holds it
-  pub free_left : hint.index < length lists.slots → (items : List ℕ) → lists.free ≡ reverse items
-      → reverse (filter (λ index. not (eqb index hint.index)) items) ≡ (created_by lists hint).free
-  free_left within items is =
-      let left : ℕ → Bool = λ index. not (eqb index hint.index) in
-      sym (filter-reverse left items) ∙ ap (filter left) (sym is) ∙ ap (λ (made : Creation). made.free) (sym (at_free_index within))
 
   -- past the end
   pub past_end : length lists.slots ≤ hint.index → created_by lists hint ≡ creation_past_end lists.slots lists.free hint
@@ -68,6 +51,12 @@ module _ (lists : SlotLists) (hint : Entity) (fresh : is_plain lists hint ≡ fa
       let parts = or_parts (not (ltb hint.index lists.limit) || not (ltb hint.version lists.profile.version_limit)) (is_live_at lists.slots hint.index) fresh in
       let bounds = or_parts (not (ltb hint.index lists.limit)) (not (ltb hint.version lists.profile.version_limit)) parts.0 in
       (ltb-true _ _ (not-false _ bounds.0), ltb-true _ _ (not-false _ bounds.1))
+
+  -- a slot at its index is free
+  pub free_before : hint.index < length lists.slots → is_free_at lists.slots hint.index ≡ true
+  free_before within =
+      let parts = or_parts (not (ltb hint.index lists.limit) || not (ltb hint.version lists.profile.version_limit)) (is_live_at lists.slots hint.index) fresh in
+      not_live_free lists.slots hint.index within parts.1
 
   -- what it makes is lawful
   lawful_by : AreLawful lists → AreLawfulSlots lists.profile lists.limit (created_by lists hint).slots (created_by lists hint).free

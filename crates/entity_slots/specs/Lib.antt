@@ -1,1 +1,3 @@
 pub mod SlotLists
+pub mod Threads
+pub mod Threading

@@ -8,10 +8,12 @@ ghost use Rattle.entity_slots.specs.SlotLists.{slot_lists, AreLawful, Becomes};
 mod creations;
 
 use super::Dead;
+use crate::identifiers::Identifiers;
+use crate::loading::thread;
 use entity_id::{Entity, OutOfMemory, Profile, next_version};
 use std::alloc::Global;
 use std::marker::Model;
-use world_model::{Slot, is_live};
+use world_model::{FreeList, Slot};
 
 /// The slots of a registry: which identifiers are live, and which index and version the next one
 /// gets. A contract sees them as `SlotLists` (`specs/SlotLists.antt`).
@@ -19,26 +21,23 @@ use world_model::{Slot, is_live};
 pub struct EntitySlots {
     profile: Profile,
     limit: u32,
-    slots: Vec<Slot>,
-    // The index that is reused next stands last. There is room for every slot's index.
-    free: Vec<u32>,
-    // How many slots more there is room for, and for their indices.
+    // Their null index is the profile's.
+    identifiers: Identifiers,
+    // How many identifiers are live.
+    live: u32,
+    // How many identifiers more there is room for.
     spare: u32,
 }
 
 impl Model for EntitySlots {
-    ghost use Rattle.std.specs.Prelude.{◌+◌, ◌≤◌, length, reverse, vec_capacity};
-    ghost use Rattle.entity_slots.specs.SlotLists.{SlotLists, lists_with_spare, AreLawful};
+    ghost use Rattle.entity_slots.specs.SlotLists.{SlotLists};
+    ghost use Rattle.entity_slots.specs.Threading.{lists_of, IsKept};
 
     ghost Value = { SlotLists };
 
-    ghost view = { λ a.
-        lists_with_spare a.profile a.limit a.slots.items (reverse a.free.items) a.spare };
+    ghost view = { lists_of };
 
-    ghost invariant = { λ a.
-        AreLawful (lists_with_spare a.profile a.limit a.slots.items (reverse a.free.items) a.spare)
-        × (length a.slots.items + a.spare ≤ vec_capacity a.slots)
-        × (length a.slots.items + a.spare ≤ vec_capacity a.free) };
+    ghost invariant = { IsKept };
 }
 
 impl EntitySlots {
@@ -52,8 +51,8 @@ impl EntitySlots {
         EntitySlots {
             profile,
             limit: slot_limit,
-            slots: Vec::new(alloc),
-            free: Vec::new(alloc),
+            identifiers: Identifiers::new(alloc, profile.index_limit),
+            live: 0,
             spare: 0,
         }
     }
@@ -71,15 +70,12 @@ impl EntitySlots {
         requires lawful { AreLawfulSlots profile slot_limit slots.now free.now }
         ensures { IfOk result (λ made. made ≡ slot_lists profile slot_limit slots.now free.now) }
     {
-        let mut reversed = Vec::with_capacity(alloc, slots.len())?;
-        reversed.extend_from_slice(free)?;
-        reversed.reverse();
-        let slots = Vec::from_slice(alloc, slots)?;
+        let identifiers = thread(alloc, profile.index_limit, slots, free)?;
         Ok(EntitySlots {
             profile,
             limit: slot_limit,
-            slots,
-            free: reversed,
+            identifiers,
+            live: (slots.len() - free.len()) as u32,
             spare: 0,
         })
     }
@@ -96,15 +92,12 @@ impl EntitySlots {
         ensures err { OnErr result (self.new ≡ self.old) }
         ensures lawful { AreLawful self.new }
     {
-        if !is_live(&self.slots, entity) {
+        if !self.identifiers.is_live(entity) {
             return Err(Dead);
         }
         let version = next_version(self.profile, entity.version);
-        self.slots[entity.index as usize] = Slot {
-            version,
-            live: false,
-        };
-        self.free.push(entity.index).unwrap();
+        self.identifiers.release(entity.index, version);
+        self.live -= 1;
         Ok(())
     }
 
@@ -112,14 +105,14 @@ impl EntitySlots {
     pub fn valid(&self, entity: Entity) -> bool
         ensures { result ≡ is_live self.now.slots entity }
     {
-        is_live(&self.slots, entity)
+        self.identifiers.is_live(entity)
     }
 
     /// How many identifiers are live. No memory. (EnTT: `registry.alive()`.)
     pub fn alive(&self) -> u32
         ensures { result ≡ count_by (λ slot. slot.live) self.now.slots }
     {
-        (self.slots.len() - self.free.len()) as u32
+        self.live
     }
 
     /// How many slots there are. No memory. (EnTT: `registry.size()`.)
@@ -128,7 +121,7 @@ impl EntitySlots {
         ensures free { length self.now.free ≤ length self.now.slots }
         ensures lawful { AreLawful self.now }
     {
-        self.slots.len() as u32
+        self.identifiers.len()
     }
 
     /// The slot of an index below [`EntitySlots::len`]. No memory. (EnTT: its version is
@@ -137,15 +130,24 @@ impl EntitySlots {
         requires { index < length self.now.slots }
         ensures { slice_get self.now.slots index ≡ Some result }
     {
-        self.slots[index as usize]
+        self.identifiers.slot(index)
     }
 
     /// The free index at a place, counted from 0 at the one that is reused next. None exactly past
-    /// the last. No memory. (EnTT: place 0 is the index of `registry.released()`.)
+    /// the last. It walks there, index by index: [`EntitySlots::free_list`] gives all of them in
+    /// one walk. No memory. (EnTT: place 0 is the index of `registry.released()`.)
     pub fn free_at(&self, place: u32) -> Option<u32>
         ensures { result ≡ slice_get self.now.free place }
     {
-        let behind = self.free.len().checked_sub(place as usize + 1)?;
-        Some(self.free[behind])
+        self.identifiers.free_at(place)
+    }
+
+    /// All free indices, the one that is reused next first, in one walk. `OutOfMemory` where there
+    /// is no memory for them. (EnTT: the walk from `registry.released()` on, by which its snapshot
+    /// saves them.)
+    pub fn free_list(&self) -> Result<FreeList, OutOfMemory>
+        ensures { IfOk result (λ list. list ≡ self.now.free) }
+    {
+        Ok(FreeList::from_vec(self.identifiers.free_list()?))
     }
 }

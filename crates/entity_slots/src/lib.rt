@@ -9,9 +9,10 @@
 //! (`specs/Slots.antt`).
 #![tactic(auto)]
 
-mod creation;
 mod entity_slots;
 mod hint;
+mod identifiers;
+mod loading;
 mod refused;
 
 pub use entity_slots::EntitySlots;

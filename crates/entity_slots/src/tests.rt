@@ -93,6 +93,21 @@ fn hints_are_given_where_they_are_free_and_fit(rt: HostRuntime) {
 }
 
 #[test]
+fn a_hint_in_the_middle_of_the_free_list_leaves_the_rest(rt: HostRuntime) {
+    let mut slots = EntitySlots::new(rt.alloc(), P20_12, 9);
+    for index in 0..4 {
+        assert_eq!(rt; slots.create(), Ok(entity(index, 0)));
+    }
+    for index in [1, 3, 2] {
+        assert_eq!(rt; slots.destroy(entity(index, 0)), Ok(()));
+    }
+    assert_eq!(rt; slots.create_hint(entity(3, 7)), Ok(entity(3, 7)));
+    let free = slots.free_list().expect(&rt, "memory");
+    assert_eq!(rt; free.as_slice(), [2, 1].as_slice());
+    assert_eq!(rt; slots.alive(), 2);
+}
+
+#[test]
 fn a_reserved_creation_is_refused_only_at_the_limit(rt: HostRuntime) {
     let mut slots = EntitySlots::new(rt.alloc(), P20_12, 2);
     slots.reserve(1).expect(&rt, "memory");

@@ -4,8 +4,7 @@ ghost use Rattle.std.specs.Prelude.{◌≡◌, ◌≢◌, ◌+◌, ◌<◌, ◌�
 ghost use Rattle.entity_slots.specs.SlotLists.{AreLawful, Becomes, are_full, created, is_plain, created_by};
 
 use super::EntitySlots;
-use crate::creation::{append, reuse};
-use crate::hint::{append_past, is_plain_hint, take_free};
+use crate::hint::{append_past, is_plain_hint};
 use crate::refused::{CreateRefused, Full};
 use entity_id::{Entity, OutOfMemory};
 
@@ -43,7 +42,7 @@ impl EntitySlots {
         ensures reserved { 0 < self.old.spare → IsOk result }
         ensures lawful { AreLawful self.new }
     {
-        if self.free.is_empty() && self.slots.len() < self.limit as usize {
+        if self.identifiers.none_free() && self.identifiers.len() < self.limit {
             self.reserve(1)?;
         }
         Ok(())
@@ -65,14 +64,16 @@ impl EntitySlots {
         ensures err { OnErr result (self.new ≡ self.old) }
         ensures lawful { AreLawful self.new }
     {
-        if let Some(index) = self.free.pop() {
-            return Ok(reuse(&mut self.slots, index));
+        if let Some(entity) = self.identifiers.reuse() {
+            self.live += 1;
+            return Ok(entity);
         }
-        if self.slots.len() >= self.limit as usize {
+        if self.identifiers.len() >= self.limit {
             return Err(Full);
         }
         self.spare -= 1;
-        Ok(append(&mut self.slots))
+        self.live += 1;
+        Ok(self.identifiers.append(0))
     }
 
     /// Makes the identifier that is hinted at, where its index is below the slot limit and not live,
@@ -99,15 +100,17 @@ impl EntitySlots {
         ensures err { OnErr result (Becomes self.old self.new self.old.slots self.old.free) }
         ensures lawful { AreLawful self.new }
     {
-        if is_plain_hint(self.profile, self.limit, &self.slots, hint) {
+        if is_plain_hint(self.profile, self.limit, &self.identifiers, hint) {
             return self.create();
         }
-        if (hint.index as usize) < self.slots.len() {
-            take_free(&mut self.slots, &mut self.free, hint);
+        if hint.index < self.identifiers.len() {
+            self.identifiers.take_out(hint);
+            self.live += 1;
             return Ok(hint);
         }
-        let made = append_past(&mut self.slots, &mut self.free, hint)?;
+        let made = append_past(&mut self.identifiers, hint)?;
         self.spare = self.spare.saturating_sub(made);
+        self.live += 1;
         Ok(hint)
     }
 
@@ -122,9 +125,7 @@ impl EntitySlots {
         ensures lawful { AreLawful self.new }
     {
         let spare = self.spare.max(n);
-        self.slots.reserve(spare as usize)?;
-        let wanted = self.slots.len() + spare as usize;
-        self.free.reserve(wanted.saturating_sub(self.free.len()))?;
+        self.identifiers.reserve(spare as usize)?;
         self.spare = spare;
         Ok(())
     }

@@ -14,7 +14,7 @@ use entity_slots::EntitySlots;
 use signal_sink::Listener;
 use std::alloc::Global;
 use storage::Storage;
-use world_model::{FreeList, PoolList, Row, Rows, Slot, SlotList, World};
+use world_model::{PoolList, Row, Rows, Slot, SlotList, World};
 
 // The world that the parts stand for, at a tick, rows in ascending index.
 pub fn save<L: Listener>(parts: &Parts<L>, tick: u64) -> Result<World, OutOfMemory>
@@ -26,7 +26,7 @@ pub fn save<L: Listener>(parts: &Parts<L>, tick: u64) -> Result<World, OutOfMemo
     let decls = copy_decls(alloc, &parts.decls)?;
     let groups = copy_groups(alloc, parts.groups.decls())?;
     let slots = save_slots(alloc, &parts.slots)?;
-    let free = save_free(alloc, &parts.slots)?;
+    let free = parts.slots.free_list()?;
     let pools = save_pools(alloc, &parts.pools)?;
     Ok(World {
         profile: parts.profile,
@@ -34,7 +34,7 @@ pub fn save<L: Listener>(parts: &Parts<L>, tick: u64) -> Result<World, OutOfMemo
         groups,
         tick,
         slots: SlotList::from_vec(slots),
-        free: FreeList::from_vec(free),
+        free,
         pools: PoolList::from_vec(pools),
     })
 }
@@ -45,19 +45,6 @@ fn save_slots(alloc: Global, slots: &EntitySlots) -> Result<Vec<Slot>, OutOfMemo
     let mut list = Vec::with_capacity(alloc, slots.len() as usize)?;
     for index in 0..slots.len() {
         list.push(slots.slot(index))?;
-    }
-    Ok(list)
-}
-
-fn save_free(alloc: Global, slots: &EntitySlots) -> Result<Vec<u32>, OutOfMemory>
-    ensures { IfOk result (λ list. list.items ≡ slots.now.free) }
-{
-    let mut list = Vec::new(alloc);
-    for place in 0..slots.len() {
-        let Some(index) = slots.free_at(place) else {
-            return Ok(list);
-        };
-        list.push(index)?;
     }
     Ok(list)
 }

@@ -1,5 +1,4 @@
-use Rattle.std.proofs.Common.{◌≡◌, ◌+◌, ◌-◌, ◌++◌, length, replicate}
-use Rattle.std.specs.Prelude.{vec_capacity}
+use Rattle.std.proofs.Common.{◌≡◌, ◌-◌, ◌++◌, length, replicate, reverse}
 use Rattle.std.specs.List.{range_with_len}
 use Rattle.world_model.specs.Slots.{free_slot}
 use Rattle.entity_slots.proofs.hint.append_past.Given as goal
@@ -7,12 +6,11 @@ use Rattle.entity_slots.proofs.hint.append_past.Given as goal
 -- the indices before this one are free, in ascending order, and there is room for the others
 abbrev pub invariant-loop-index : goal.invariant-loop-index
 invariant-loop-index l =
-    let first = length l.fn.slots.items in
+    let first = length l.fn.identifiers.slots in
     record {
-      slots : l.slots.items ≡ l.fn.slots.items ++ replicate (l.index - first) (free_slot 0);
-      free : l.free.items ≡ l.fn.free.items ++ range_with_len first (l.index - first);
-      slots_long : length l.slots.items ≡ l.index;
-      free_long : length l.free.items + first ≡ length l.fn.free.items + l.index;
-      slot_room : vec_capacity l.slots ≡ vec_capacity l.initial.slots;
-      index_room : vec_capacity l.free ≡ vec_capacity l.initial.free;
+      slots : l.identifiers.slots ≡ l.fn.identifiers.slots ++ replicate (l._index - first) (free_slot 0);
+      free : l.identifiers.free ≡ reverse (range_with_len first (l._index - first)) ++ l.fn.identifiers.free;
+      long : length l.identifiers.slots ≡ l._index;
+      null : l.identifiers.null ≡ l.fn.identifiers.null;
+      room : l.identifiers.room ≡ l.initial.identifiers.room;
     }

@@ -1,4 +1,4 @@
-use Rattle.std.proofs.Common.{◌≡◌, ◌≤◌, List, ℕ, length, reverse, arith, subst}
+use Rattle.std.proofs.Common.{◌≡◌, ◌≤◌, List, ℕ, length, arith, subst}
 use Rattle.world_model.specs.declared.slot.Slot.{Slot}
 use Rattle.entity_slots.specs.SlotLists.{SlotLists}
 use Rattle.entity_slots.proofs.CountLemmas.{free_count, length_free, live_or_free}
@@ -6,8 +6,8 @@ use Rattle.entity_slots.proofs.entity_slots.EntitySlots.len.Goals as goal
 
 pub returns-clause-free : goal.returns-clause-free
 returns-clause-free c =
-    let slots : List Slot = c.self.inside.slots.items in
-    let free : List ℕ = c.self.inside.free.items in
-    let as_many : length (reverse free) ≡ free_count slots = length_free slots (reverse free) c.self.invariant.0.slots.listed in
-    let fewer : length (reverse free) ≤ length slots = omega (arith, live_or_free slots) in
+    let slots : List Slot = c.self.inside.identifiers.slots in
+    let free : List ℕ = c.self.inside.identifiers.free in
+    let as_many : length free ≡ free_count slots = length_free slots free c.self.invariant.lawful.slots.listed in
+    let fewer : length free ≤ length slots = omega (arith, live_or_free slots) in
     subst (λ (lists : SlotLists). length lists.free ≤ length lists.slots) c.self.view_is fewer
