@@ -5,8 +5,8 @@ use Rattle.std.proofs.lemmas.Bool.{cases_Bool, cases_order, false_from_ne_true}
 use Rattle.world_model.specs.declared.access.Access.{Access}
 use Rattle.world_model.specs.Frames.{system_pools}
 use Rattle.world_model.specs.Groups.{has_pool}
-use Rattle.access_graph.specs.Conflicts.{ComesBefore, Walk, Reaches, IsReachable, IsEdge, IsOtherEdge, IsWave, access_at, systems_conflict}
-use Rattle.access_graph.proofs.WalkLemmas.{walk_join, reach_step, reach_join, reach_as, reach_through}
+use Rattle.access_graph.specs.Conflicts.{ComesBefore, Walk, Reaches, IsReachable, IsEdge, IsOtherEdge, IsTopLevel, IsWave, access_at, systems_conflict}
+use Rattle.access_graph.proofs.WalkLemmas.{walk_join, walk_last, reach_step, reach_join, reach_as, reach_through}
 use Rattle.access_graph.proofs.OrderTests.{has_between, between_from_test, test_from_between, reach_rises}
 use Rattle.std.proofs.lemmas.Bool.{both_ways}
 
@@ -62,6 +62,12 @@ module _ (systems : List Access) where
 
   pub edges_reach : (i j : ℕ) → Reaches (IsEdge systems) i j → IsReachable systems i j
   edges_reach i j reach = reach_as (IsEdge systems) (ComesBefore systems) (λ a b edge. edge.before) i j reach
+
+  pub top_waits_for_none : (i j : ℕ) → IsTopLevel systems j → ComesBefore systems i j → ⊥
+  top_waits_for_none i j top before =
+      let reach = reached_by_edges i j (reach_step (ComesBefore systems) i j before) in
+      let last = walk_last (IsEdge systems) reach.0 i j reach.1 in
+      top last.0 last.2
 
   -- without an edge its end isn't reached from its start
   edge_lost_along : (i j n : ℕ) → IsEdge systems i j → Walk (IsOtherEdge systems i j) (suc n) i j → ⊥

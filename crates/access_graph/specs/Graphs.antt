@@ -18,8 +18,10 @@ pub record SystemGraph : Type 0 where
 -- by which a proof tells graphs apart: one is stored as its three parts
 abbrev pub graph_code : Coded SystemGraph
 graph_code =
-    code_by (List SystemSet × (List ℕ × List Edge)) (coded× (coded_list (set.code coded_ℕ)) (coded× (coded_list coded_ℕ) (coded_list the_row.coded)))
-    (λ graph. (graph.preds, (graph.waves, graph.edges))) (λ parts. record { preds = parts.0; waves = parts.1.0; edges = parts.1.1 }) (λ _. refl)
+    code_by (List SystemSet × (List ℕ × List Edge))
+    (coded× (coded_list (set.code coded_ℕ)) (coded× (coded_list coded_ℕ) (coded_list the_row.coded)))
+    (λ graph. (graph.preds, (graph.waves, graph.edges)))
+    (λ parts. record { preds = parts.0; waves = parts.1.0; edges = parts.1.1 }) (λ _. refl)
 
 -- the set of this number; one that isn't there is empty
 abbrev pub set_at : List SystemSet → ℕ → SystemSet
@@ -50,6 +52,7 @@ pub record AreEdges (systems : List Access) (edges : List Edge) : Type 0 where
 -- the graph of these systems: for each of them the earlier ones that conflict with it, and its wave; and the edges of all
 pub record IsGraphOf (systems : List Access) (graph : SystemGraph) : Type 0 where
   pub counted : length graph.preds ≡ length systems
+  pub waves_counted : length graph.waves ≡ length systems
   pub preds : (i j : ℕ) → IsTrue (set.contains (set_at graph.preds j) i) ↔ ComesBefore systems i j
   pub waves : (j : ℕ) → j < length systems → IsWave systems j (slice_index graph.waves j)
   pub edges : AreEdges systems graph.edges

@@ -21,4 +21,5 @@ systems_of bits = set.from_list (filter (λ number. bit_at bits number == 1) (ra
 abbrev pub IsNext : SystemSet → ℕ → Option ℕ → Type 0
 IsNext systems from next =
     MatchOption next ((other : ℕ) → from ≤ other → IsFalse (set.contains systems other))
-    (λ number. (from ≤ number) × IsTrue (set.contains systems number) × ((other : ℕ) → from ≤ other → other < number → IsFalse (set.contains systems other)))
+    (λ number. (from ≤ number) × IsTrue (set.contains systems number)
+    × ((other : ℕ) → from ≤ other → other < number → IsFalse (set.contains systems other)))

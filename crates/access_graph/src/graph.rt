@@ -7,7 +7,7 @@ ghost use Rattle.std.specs.FinSet as set;
 ghost use Rattle.std.specs.List.{list_any};
 ghost use Rattle.world_model.specs.declared.access.Access.{Access};
 ghost use Rattle.access_graph.specs.Conflicts.{ComesBefore, IsTopLevel, IsWave};
-ghost use Rattle.access_graph.specs.Graphs.{AreEdges, IsGraphOf, set_at};
+ghost use Rattle.access_graph.specs.Graphs.{IsGraphOf, set_at};
 ghost use Rattle.access_graph.specs.Systems.{system_limit};
 
 use super::building::Building;
@@ -28,7 +28,7 @@ pub struct Graph {
 }
 
 impl Model for Graph {
-    ghost use Rattle.std.specs.Prelude.{◌≡◌, ◌≤◌, ◌<◌, length};
+    ghost use Rattle.std.specs.Prelude.{◌≡◌, ◌≤◌, length};
     ghost use Rattle.access_graph.specs.Graphs.{SystemGraph, graph_code};
     ghost use Rattle.access_graph.specs.Systems.{system_limit};
 

@@ -4,7 +4,7 @@ ghost use Rattle.std.specs.Prelude.{◌≡◌, ◌≢◌, ◌↔◌, ◌<◌, �
 ghost use Rattle.std.specs.FinSet as set;
 ghost use Rattle.world_model.specs.declared.access.Access.{Access};
 ghost use Rattle.access_graph.specs.declared.edge.Edge.{Edge};
-ghost use Rattle.access_graph.specs.Conflicts.{ComesBefore, IsEdge, IsOtherEdge, IsReachable, IsWave, Reaches, access_at, systems_conflict};
+ghost use Rattle.access_graph.specs.Conflicts.{ComesBefore, IsEdge, IsOtherEdge, IsReachable, IsTopLevel, IsWave, Reaches, access_at, systems_conflict};
 ghost use Rattle.access_graph.specs.Graphs.{AreEdges, IsGraphOf, SystemGraph, set_at};
 
 /// Whether two systems conflict doesn't depend on their order. Of two different systems that conflict, the
@@ -18,9 +18,12 @@ pub fn conflicting_systems_wait()
 {}
 
 /// Along the edges each system is reached from exactly those from which it is reached in the conflict
-/// order. No memory. (EnTT: the graph that `organizer.graph()` gives, after its transitive reduction.)
+/// order; so one to which no edge leads waits for none. No memory. (EnTT: the graph that
+/// `organizer.graph()` gives, after its transitive reduction.)
 pub fn edges_keep_the_order()
-    ensures { (systems : List Access) (i j : ℕ) →
+    ensures top { (systems : List Access) (i j : ℕ) → IsTopLevel systems j →
+        ¬ ComesBefore systems i j }
+    ensures reached { (systems : List Access) (i j : ℕ) →
         IsReachable systems i j ↔ Reaches (IsEdge systems) i j }
 {}
 
@@ -49,8 +52,11 @@ pub fn waves_rise()
         IsFalse (systems_conflict (access_at systems i) (access_at systems j)) }
 {}
 
-/// Systems have one list of edges, and each of them one wave. No memory. (This project's own.)
+/// Systems have one graph, and so one list of edges, and each of them one wave. No memory. (This project's
+/// own.)
 pub fn graphs_are_unique()
+    ensures graph { (systems : List Access) (graph other : SystemGraph) →
+        IsGraphOf systems graph → IsGraphOf systems other → graph ≡ other }
     ensures edges { (systems : List Access) (edges others : List Edge) →
         AreEdges systems edges → AreEdges systems others → edges ≡ others }
     ensures waves { (systems : List Access) (j wave other : ℕ) →

@@ -51,7 +51,8 @@ pub(crate) fn add_edges(
     requires counted { length waves.now ≡ to }
     requires below { (i : ℕ) → IsTrue (set.contains sources.now i) → i < to }
     requires low { (i : ℕ) → i < to → slice_index waves.now i ≤ i }
-    ensures edges { OnOk result (edges.new.items ≡ edges.old.items ++ edges_from sources.now to to) }
+    ensures edges { OnOk result
+        (edges.new.items ≡ edges.old.items ++ edges_from sources.now to to) }
     ensures wave { IfOk result (λ wave. IsWaveAfter sources.now waves.now to wave) }
     ensures low { IfOk result (λ wave. wave ≤ to) }
 {
