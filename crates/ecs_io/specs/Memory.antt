@@ -1,5 +1,5 @@
 -- What a source and a sink in memory are, and what a call makes of them.
-use Rattle.std.specs.Prelude.{◌≡◌, ℕ, ◌-◌, min, List, ◌++◌, drop, length, Contains, ◌⊎◌}
+use Rattle.std.specs.Prelude.{◌≡◌, ℕ, ◌-◌, Bool, true, min, List, ◌++◌, drop, length, Contains, ◌⊎◌}
 use Rattle.ecs_io.specs.Streams.{one_more}
 
 -- a source in memory
@@ -41,8 +41,10 @@ pub record Store : Type 0 where
   pub fails : List ℕ
   -- how many writes there were, as 64 bits count them
   pub writes : ℕ
-  -- how many of them failed, as 64 bits count them
+  -- how many writes and flushes failed, as 64 bits count them
   pub faults : ℕ
+  -- whether every flush fails
+  pub fails_flush : Bool
 
 -- these bytes are held
 abbrev pub IsHeld : Store → List ℕ → Type 0
@@ -65,3 +67,11 @@ after_write store taken =
 abbrev pub after_failed_write : Store → Store
 after_failed_write store =
     record store { writes = one_more store.writes; faults = one_more store.faults }
+
+-- the sink, every later flush of which fails
+abbrev pub failing_flushes : Store → Store
+failing_flushes store = record store { fails_flush = true }
+
+-- the sink after a flush that failed
+abbrev pub after_failed_flush : Store → Store
+after_failed_flush store = record store { faults = one_more store.faults }

@@ -1,8 +1,9 @@
 //! A sink in memory, which fails where it is told and where it is full.
 
-ghost use Rattle.std.specs.Prelude.{◌≡◌, ◌<◌, ◌≤◌, ◌↔◌, [], length, take, IfOk, OnOk, IsOk, IsErr, OnErr};
+ghost use Rattle.std.specs.Prelude.{◌≡◌, ◌<◌, ◌≤◌, ◌↔◌, true, false, [], length, take, IfOk, OnOk, IsErr, OnErr};
 ghost use Rattle.ecs_io.specs.Streams.{HasCause, Grows, Stays};
-ghost use Rattle.ecs_io.specs.Memory.{IsHeld, IsRefusing, taken_count, after_write, after_failed_write};
+ghost use Rattle.ecs_io.specs.Memory.{IsHeld, IsRefusing, taken_count, failing_flushes};
+ghost use Rattle.ecs_io.specs.Memory.{after_write, after_failed_write, after_failed_flush};
 
 use super::{Sink, WriteFailed};
 use entity_id::{Counts, OutOfMemory};
@@ -10,7 +11,8 @@ use std::alloc::Global;
 use std::marker::Model;
 
 /// A sink in memory, which holds at most `room` bytes and takes at most `piece` bytes in a write.
-/// Exactly the writes whose numbers, from 0, stand in `fails` fail, and those at a full sink.
+/// Exactly the writes whose numbers, from 0, stand in `fails` fail, and those at a full sink. A flush
+/// fails exactly where [`MemSink::fail_flush`] was called.
 #[derive(Debug, Drop)]
 pub struct MemSink {
     bytes: Vec<u8>,
@@ -19,6 +21,7 @@ pub struct MemSink {
     fails: Counts,
     writes: u64,
     faults: u64,
+    fails_flush: bool,
 }
 
 impl Model for MemSink {
@@ -34,6 +37,7 @@ impl Model for MemSink {
       fails = a.fails;
       writes = a.writes;
       faults = a.faults;
+      fails_flush = a.fails_flush;
     } };
 
     ghost invariant = { λ a.
@@ -42,7 +46,8 @@ impl Model for MemSink {
 
 impl MemSink {
     /// A sink that holds nothing, with room for `room` bytes, that takes at most `piece` bytes in a
-    /// write. Its writes are numbered from 0, and those whose numbers stand in `fails` fail.
+    /// write. Its writes are numbered from 0, and those whose numbers stand in `fails` fail. No flush
+    /// fails.
     /// `OutOfMemory` where there is no memory for `room` bytes: no later call takes any.
     pub fn new(
         alloc: Global,
@@ -52,7 +57,15 @@ impl MemSink {
     ) -> Result<MemSink, OutOfMemory>
         requires { 1 ≤ piece }
         ensures { IfOk result (λ sink. sink ≡
-            record { bytes = []; room = room; piece = piece; fails = fails; writes = 0; faults = 0 }) }
+            record {
+              bytes = [];
+              room = room;
+              piece = piece;
+              fails = fails;
+              writes = 0;
+              faults = 0;
+              fails_flush = false;
+            }) }
     {
         let bytes = Vec::with_capacity(alloc, room)?;
         Ok(MemSink {
@@ -62,7 +75,19 @@ impl MemSink {
             fails,
             writes: 0,
             faults: 0,
+            fails_flush: false,
         })
+    }
+
+    /// The same sink, of which every later flush fails and raises the count of faults, which stays at
+    /// its last value. No memory.
+    pub fn fail_flush(self) -> MemSink
+        ensures { result ≡ failing_flushes self }
+    {
+        MemSink {
+            fails_flush: true,
+            ..self
+        }
     }
 
     /// The bytes held, never more than the room. No memory.
@@ -73,7 +98,7 @@ impl MemSink {
         &self.bytes
     }
 
-    /// How many writes have failed. No memory.
+    /// How many writes and flushes have failed. No memory.
     pub fn faults(&self) -> u64
         ensures { result ≡ self.now.faults }
     {
@@ -112,9 +137,14 @@ impl Sink for MemSink {
     fn flush(&mut self) -> Result<(), WriteFailed>
         ensures bytes { Stays (IsHeld self.old) (IsHeld self.new) }
         ensures cause { HasCause self.old.faults self.new.faults result }
-        ensures ok { IsOk result }
-        ensures same { self.new ≡ self.old }
+        ensures fails { IsErr result ↔ (self.old.fails_flush ≡ true) }
+        ensures ok { OnOk result (self.new ≡ self.old) }
+        ensures failed { OnErr result (self.new ≡ after_failed_flush self.old) }
     {
+        if self.fails_flush {
+            self.faults = self.faults.saturating_add(1);
+            return Err(WriteFailed);
+        }
         Ok(())
     }
 }

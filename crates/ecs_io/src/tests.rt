@@ -58,6 +58,23 @@ fn a_sink_fails_at_its_named_writes_and_where_it_is_full(
 }
 
 #[test]
+fn a_sink_that_is_told_to_fails_every_flush_and_keeps_its_bytes(
+    rt: HostRuntime,
+) -> Result<(), AllocError> {
+    let none = Counts::from_vec(Vec::new(rt.alloc()));
+    let mut sink = MemSink::new(rt.alloc(), 9, 9, none)
+        .expect(&rt, "memory")
+        .fail_flush();
+    assert_eq!(rt; write_all(&mut sink, b"abc"), Err(WriteFailed));
+    assert_eq!(rt; sink.bytes(), b"abc".as_slice());
+    assert_eq!(rt; sink.faults(), 1);
+    assert_eq!(rt; sink.flush(), Err(WriteFailed));
+    assert_eq!(rt; sink.bytes(), b"abc".as_slice());
+    assert_eq!(rt; sink.faults(), 2);
+    Ok(())
+}
+
+#[test]
 fn whole_texts_pass_a_byte_at_a_time(rt: HostRuntime) -> Result<(), AllocError> {
     let text = vec![in rt.alloc(); 104u8, 105, 10]?;
     let mut source = MemSource::new(text, 1, Counts::from_vec(Vec::new(rt.alloc())));
