@@ -1,0 +1,8 @@
+use Rattle.std.proofs.Common.{arith}
+use Rattle.snapshot.specs.Fields.{u32_bytes}
+use Rattle.snapshot.proofs.PlaceLemmas.{too_short}
+use Rattle.snapshot.proofs.body.slot_count_at.Goals as goal
+
+pub returns-in_err-count-clause-none : goal.returns-in_err-count-clause-none
+returns-in_err-count-clause-none c =
+    rw c.from_residual.ensures (λ count more is e. too_short 4 c.args.at c.args.bytes.now (u32_bytes count) more c.in_err-count.ensures.none (omega arith) (omega arith) e)
