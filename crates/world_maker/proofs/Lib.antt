@@ -1,0 +1,10 @@
+pub mod DrawLemmas
+pub mod FrameLemmas
+pub mod FrameValue
+pub mod MemberTextLemmas
+pub mod RowLawfulness
+pub mod SumLemmas
+pub mod UniqueWorlds
+pub mod WorkedDraws
+pub mod WorkedPools
+pub mod WorkedTexts

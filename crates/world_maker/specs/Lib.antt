@@ -1,0 +1,4 @@
+pub mod Draws
+pub mod MadeWorlds
+pub mod Making
+pub mod Summaries
