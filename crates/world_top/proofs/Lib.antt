@@ -9,6 +9,7 @@ pub mod LawLemmas
 pub mod LiveLemmas
 pub mod OptionLemmas
 pub mod OrderTickLemmas
+pub mod PackLemmas
 pub mod PlayLemmas
 pub mod ProgressLemmas
 pub mod RunningLemmas

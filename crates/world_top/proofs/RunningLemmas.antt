@@ -13,7 +13,7 @@ use Rattle.world_model.specs.declared.component.Decl.{Decl}
 use Rattle.world_model.specs.declared.world.World.{World}
 use Rattle.world_model.specs.Components.{IsDecl}
 use Rattle.world_model.specs.Frames.{IsFitSystem}
-use Rattle.world_model.specs.Ticks.{System as AnySystem, orders_of, world_after_orders, world_after_ticks}
+use Rattle.world_model.specs.Ticks.{System as AnySystem, orders_of, world_after_ticks}
 use Rattle.world_model.proofs.TickLemmas.{ticks-add}
 use Rattle.world_text.specs.declared.document.Document.{Document}
 use Rattle.world_text.specs.Documents.{IsLawfulDocument, text}
@@ -104,6 +104,17 @@ module _ (document : Document) (held new : Held) (ticks : ℕ) (limit_is : held.
       after.world
       ∙ (λ i. world_after_ticks (limit_is i) (map (system_effect document.world.profile) document.systems) ticks (world_is i))
       )
+
+  -- the world that it stands for now is that of the document after the ticks
+  pub left_world : record new.world { tick = document.world.tick + ticks } ≡ (document_after_ticks ticks document).world
+  left_world = ap (λ (d : Document). d.world) left_document
+
+  -- its components are the document's
+  pub left_decls : new.world.decls ≡ document.world.decls
+  left_decls =
+      ap (λ (w : World). w.decls) after.world
+      ∙ (ticks_keep held.limit (map (system_effect document.world.profile) document.systems) ticks (world_at document.world.tick held)).decls
+      ∙ ap (λ (w : World). w.decls) world_is
 
   -- the document that it stands for now is lawful
   pub left_is_lawful : IsLawfulDocument document → document.world.tick + ticks ≤ tick_limit → IsLawfulDocument (record { world = record new.world { tick = document.world.tick + ticks }; systems = document.systems })

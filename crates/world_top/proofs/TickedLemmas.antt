@@ -10,7 +10,6 @@ use Rattle.row_lang.proofs.FrameLemmas.{changes_only_its_rows}
 use Rattle.row_lang.proofs.KeepsLemmas.{fit_keeps_lawful}
 use Rattle.world_model.specs.declared.component.Decl.{Decl}
 use Rattle.world_model.specs.declared.deferred.Deferred.{Deferred}
-use Rattle.world_model.specs.declared.group.GroupDecl.{GroupDecl}
 use Rattle.world_model.specs.declared.world.World.{World}
 use Rattle.world_model.specs.Orders.{IsFitting, beginning, apply_all}
 use Rattle.world_model.specs.Ticks.{System as AnySystem, orders_of, world_after_orders, world_after_systems, world_after_tick, world_after_ticks}

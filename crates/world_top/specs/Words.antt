@@ -1,12 +1,12 @@
 -- Which words of the program are which command.
-use Rattle.std.specs.Prelude.{◌≡◌, ℕ, ◌&&◌, nat_le, List, [], ◌∷◌, take, drop, Option, Some, None, codes, string_bytes, if◌then◌else◌}
+use Rattle.std.specs.Prelude.{ℕ, ◌-◌, ◌^◌, ◌≤◌, ◌&&◌, Bool, true, false, nat_le, List, [], ◌∷◌, take, drop, Option, Some, None, codes, string_bytes, if◌then◌else◌}
 use Rattle.std.specs.List.{flat_map}
 use Rattle.std.specs.Fmt.{decimal}
 use Rattle.std.specs.Str.{bytes_eq}
 use Rattle.std.specs.Str.Parse.{digits_value}
 use Rattle.std.specs.declared.string.String.{String}
 use Rattle.world_top.specs.declared.verb.Verb.{Verb}
-use Rattle.world_top.specs.declared.verb.Verb.TheVariants.{Snapshot, Apply, Run, Graph}
+use Rattle.world_top.specs.declared.verb.Verb.TheVariants.{Snapshot, Apply, Run, Graph, Pack, Unpack, Gen}
 
 -- the most ticks that words can ask for
 abbrev pub tick_count_limit : ℕ
@@ -15,6 +15,13 @@ tick_count_limit = 1000000
 -- the most workers that words can ask for
 abbrev pub worker_limit : ℕ
 worker_limit = 16
+
+-- the greatest number that words can name a made world by, and the most entities that they can ask for in it
+abbrev pub world_number_limit : ℕ
+world_number_limit = 2 ^ 32 - 1
+
+abbrev pub entity_count_limit : ℕ
+entity_count_limit = 1000000
 
 -- the number that a word spells in decimal, without sign and without a leading zero, where it is from a least to a greatest one
 abbrev pub number_between : ℕ → ℕ → List ℕ → Option ℕ
@@ -49,15 +56,55 @@ run_with (first ∷ x ∷ second ∷ y ∷ []) =
     if bytes_eq first (codes "--workers") && bytes_eq second (codes "--ticks") then run_spelled y x else None
 run_with _ = None
 
+-- a made world run for so many ticks, where all three numbers are there
+abbrev pub gen_of : Option ℕ → Option ℕ → Option ℕ → Option Verb
+gen_of (Some number) (Some count) (Some ticks) = Some (Gen number count ticks)
+gen_of (Some number) (Some count) None = None
+gen_of (Some number) None ticks = None
+gen_of None count ticks = None
+
+-- the made world that words behind `gen` ask for: its number, its count of entities and the ticks, in this order
+abbrev pub gen_with : {A : Type 0} → List (String A) → Option Verb
+gen_with (number ∷ count ∷ ticks ∷ []) =
+    gen_of
+    (number_between 0 world_number_limit (string_bytes number))
+    (number_between 0 entity_count_limit (string_bytes count))
+    (number_between 0 tick_count_limit (string_bytes ticks))
+gen_with _ = None
+
 -- the command of one word, which names it
 abbrev pub verb_named : List ℕ → Option Verb
 verb_named name =
     if bytes_eq name (codes "snapshot") then Some Snapshot else
     if bytes_eq name (codes "apply") then Some Apply else
-    if bytes_eq name (codes "graph") then Some Graph else None
+    if bytes_eq name (codes "graph") then Some Graph else
+    if bytes_eq name (codes "pack") then Some Pack else
+    if bytes_eq name (codes "unpack") then Some Unpack else None
 
 -- the command that words are
 abbrev pub verb_of : {A : Type 0} → List (String A) → Option Verb
 verb_of [] = None
 verb_of (word ∷ []) = verb_named (string_bytes word)
-verb_of (name ∷ options) = if bytes_eq (string_bytes name) (codes "run") then run_with (options_apart options) else None
+verb_of (name ∷ options) =
+    if bytes_eq (string_bytes name) (codes "run") then run_with (options_apart options) else
+    if bytes_eq (string_bytes name) (codes "gen") then gen_with options else None
+
+-- whether a command reads its source to the end. `gen` does not read it
+abbrev pub reads_input : Verb → Bool
+reads_input Snapshot = true
+reads_input Apply = true
+reads_input (Run ticks workers) = true
+reads_input Graph = true
+reads_input Pack = true
+reads_input Unpack = true
+reads_input (Gen number count ticks) = false
+
+-- the numbers of a command are such that it has an output or a cause for every input. Of the commands that words are, each is
+abbrev pub IsInRange : Verb → Type 0
+IsInRange Snapshot = Unit {0}
+IsInRange Apply = Unit {0}
+IsInRange (Run ticks workers) = Unit {0}
+IsInRange Graph = Unit {0}
+IsInRange Pack = Unit {0}
+IsInRange Unpack = Unit {0}
+IsInRange (Gen number count ticks) = (count ≤ entity_count_limit) × (ticks ≤ tick_count_limit)

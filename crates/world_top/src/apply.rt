@@ -74,8 +74,16 @@ fn scripted<G: Ledger>(
 {
     let Document { world, systems } = document;
     let mut registry = Registry::load(alloc, &world, VERSION_1.slot_limit)?;
-    // The registry has the rest of the document now.
-    let World { decls, tick, .. } = world;
+    // The registry has the rest now. The pattern alone would keep it until the end.
+    let World {
+        decls,
+        tick,
+        slots,
+        free,
+        pools,
+        ..
+    } = world;
+    drop((slots, free, pools));
     let mut out = Vec::new(alloc);
     play(
         alloc,

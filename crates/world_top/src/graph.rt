@@ -9,7 +9,7 @@ ghost use Rattle.world_top.specs.Graphed.{accesses_of, graph_text, spaced, task_
 ghost use Rattle.world_top.specs.Output.{IsOutput, IsInputCause};
 
 use super::Verb;
-use super::snapshot::read_document;
+use super::canonical::read_document;
 use access_graph::{Edge, Graph};
 use entity_id::{OutOfMemory, Pools};
 use itoa::Buffer;

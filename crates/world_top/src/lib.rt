@@ -8,19 +8,22 @@
 #![tactic(auto)]
 
 mod apply;
+mod canonical;
+mod generate;
 mod graph;
 mod laws;
 mod options;
 mod outcome;
 mod output_laws;
+mod pack;
 mod perform;
 mod playing;
 mod program;
 mod refused;
 mod reporting;
 mod run;
-mod snapshot;
 mod starting;
+mod ticker;
 mod verb;
 mod watching;
 
@@ -28,9 +31,10 @@ pub use laws::{
     bad_inputs_are_told, good_inputs_are_printed, long_inputs_are_told, past_inputs_are_told,
     success_prints_the_output,
 };
-pub use outcome::{Outcome, Status};
+pub use outcome::{FaultAt, Outcome, Status};
 pub use output_laws::{
-    every_input_is_answered, one_output, runs_in_parts, ticks_keep_documents_lawful,
+    every_input_is_answered, one_output, packs_are_unpacked, runs_in_parts,
+    ticks_keep_documents_lawful,
 };
 pub use program::{plain, top};
 pub use starting::start;

@@ -1,15 +1,19 @@
-//! The options of `run`.
+//! The options of `run`, and the numbers of `gen`.
 
 ghost use Rattle.std.specs.Prelude.{◌≡◌, ◌<◌, ◌∷◌, [], length, map, IfSome, IsNone, MatchOption};
-ghost use Rattle.world_top.specs.Words.{apart, number_between as number_in, options_apart};
+ghost use Rattle.world_top.specs.Words.{IsInRange, apart, gen_with as gen_in, number_between as number_in, options_apart};
 ghost use Rattle.world_top.specs.Words.{run_spelled as run_with_numbers, run_with as run_in};
 
 use super::Verb;
 use arrayvec::ArrayVec;
 use entity_id::read_nat;
+use world_maker::COUNT_LIMIT;
 
 // The most ticks and the most workers that words can ask for.
 const TICK_COUNT_LIMIT: u64 = 1_000_000;
+
+// The greatest number that words can name a made world by.
+const WORLD_NUMBER_LIMIT: u64 = 4_294_967_295;
 
 const WORKER_LIMIT: u64 = 16;
 
@@ -19,7 +23,8 @@ const WORD_COUNT: usize = 4;
 /// The run that the words behind `run` ask for: both options, in either order, each with its number as
 /// the next word or behind `=`. None where they ask for none. No memory.
 pub fn run_with(options: &[String]) -> Option<Verb>
-    ensures { result ≡ run_in (options_apart options.now) }
+    ensures verb { result ≡ run_in (options_apart options.now) }
+    ensures range { IfSome result IsInRange }
 {
     let words = words_apart(options)?;
     match words.as_slice() {
@@ -30,7 +35,8 @@ pub fn run_with(options: &[String]) -> Option<Verb>
 
 // The run that four words ask for.
 fn run_of(first: &[u8], x: &[u8], second: &[u8], y: &[u8]) -> Option<Verb>
-    ensures { result ≡ run_in (first.now ∷ x.now ∷ second.now ∷ y.now ∷ []) }
+    ensures verb { result ≡ run_in (first.now ∷ x.now ∷ second.now ∷ y.now ∷ []) }
+    ensures range { IfSome result IsInRange }
 {
     if first == b"--ticks".as_slice() && second == b"--workers".as_slice() {
         return run_spelled(x, y);
@@ -82,11 +88,31 @@ fn split_option(word: &[u8]) -> (&[u8], Option<&[u8]>)
 
 // A run whose numbers these words spell.
 fn run_spelled(ticks: &[u8], workers: &[u8]) -> Option<Verb>
-    ensures { result ≡ run_with_numbers ticks.now workers.now }
+    ensures verb { result ≡ run_with_numbers ticks.now workers.now }
+    ensures range { IfSome result IsInRange }
 {
     let ticks = number_between(0, TICK_COUNT_LIMIT, ticks)?;
     let workers = number_between(1, WORKER_LIMIT, workers)?;
     Some(Verb::Run { ticks, workers })
+}
+
+/// The made world that the words behind `gen` ask for: its number, how many entities it has, and for how
+/// many ticks its systems run, in this order. None where they ask for none. No memory.
+pub fn gen_with(words: &[String]) -> Option<Verb>
+    ensures verb { result ≡ gen_in words.now }
+    ensures range { IfSome result IsInRange }
+{
+    let [number, count, ticks] = words else {
+        return None;
+    };
+    let number = number_between(0, WORLD_NUMBER_LIMIT, number.as_bytes())?;
+    let count = number_between(0, u64::from(COUNT_LIMIT), count.as_bytes())?;
+    let ticks = number_between(0, TICK_COUNT_LIMIT, ticks.as_bytes())?;
+    Some(Verb::Gen {
+        number: number as u32,
+        count: count as u32,
+        ticks,
+    })
 }
 
 // The number that a word spells in decimal, without sign and without a leading zero, from a least to a

@@ -1,8 +1,35 @@
 ghost use Rattle.std.specs.Prelude.{◌≡◌};
 ghost use Rattle.std.specs.Process.{exit_status};
-ghost use Rattle.world_top.specs.Endings.{number_of};
+ghost use Rattle.world_top.specs.Endings.{number_at, number_of};
 
 use std::process::ExitCode;
+
+/// Where the first bad part of an input is: the first that is not admissible, or that is missing.
+#[derive(Clone, Copy, Debug, PartialEq, Eq)]
+pub enum FaultAt {
+    /// A line of a text.
+    Line {
+        /// The line's number, from 1.
+        line: u64,
+    },
+    /// A field of a binary snapshot.
+    Offset {
+        /// How many bytes stand before the field.
+        offset: u64,
+    },
+}
+
+impl FaultAt {
+    /// The line's number, or the field's offset. No memory.
+    pub fn number(self) -> u64
+        ensures { result ≡ number_at self }
+    {
+        match self {
+            FaultAt::Line { line } => line,
+            FaultAt::Offset { offset } => offset,
+        }
+    }
+}
 
 /// How a call of the program ended.
 #[derive(Clone, Copy, Debug, PartialEq, Eq)]
@@ -11,10 +38,10 @@ pub enum Outcome {
     Done,
     /// The words are no command.
     Usage,
-    /// This line of the input is the first that is not admissible, or that is missing.
-    BadLine {
-        /// The line's number, from 1.
-        line: u64,
+    /// A part of the input is not admissible, or is missing.
+    BadInput {
+        /// Where the first one is.
+        at: FaultAt,
     },
     /// A read failed.
     ReadFault,
@@ -43,7 +70,7 @@ impl Outcome {
         let number = match self {
             Outcome::Done => 0,
             Outcome::Usage => 2,
-            Outcome::BadLine { .. } => 3,
+            Outcome::BadInput { .. } => 3,
             Outcome::ReadFault => 4,
             Outcome::WriteFault => 5,
             Outcome::TooLong => 6,

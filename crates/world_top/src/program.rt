@@ -4,6 +4,7 @@ ghost use Rattle.world_top.specs.Endings.{Ends, fault_line, number_of};
 
 use super::perform::perform;
 use super::reporting::report;
+use super::ticker::OneThread;
 use super::verb::verb_of;
 use super::{Outcome, Status};
 use ecs_io::{Sink, Source};
@@ -13,8 +14,9 @@ use std::thread::Threads;
 
 /// Does what the words say: all that the program does. What it prints goes to `sink`, and the line
 /// that tells any other ending than success to `faults`. Every status has its cause: 2 the words, 3
-/// the input's first bad line, 4 a failed read, 5 a failed write, 6 an input that is too long, 7 want
-/// of memory, 8 a tick number that would pass its limit.
+/// the input's first bad line, or for `unpack` the offset at which its first bad field starts, 4 a
+/// failed read, 5 a failed write, 6 an input that is too long, 7 want of memory, 8 a tick number that
+/// would pass its limit.
 pub fn top<R: Threads + Wait, S: Source, K: Sink, E: Sink>(
     _rt: &R,
     alloc: Global,
@@ -63,7 +65,7 @@ pub fn plain<S: Source, K: Sink, E: Sink>(
         result.number }
 {
     let outcome = match verb_of(words) {
-        Some(verb) => perform(alloc, verb, source, sink),
+        Some(verb) => perform(alloc, &OneThread, verb, source, sink),
         None => Outcome::Usage,
     };
     end(faults, outcome)

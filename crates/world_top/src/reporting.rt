@@ -3,7 +3,7 @@ ghost use Rattle.std.specs.Fmt.{decimal};
 ghost use Rattle.ecs_io.specs.Streams.{Grows, GrowsByFront, HasCause};
 ghost use Rattle.world_top.specs.Endings.{fault_line, fault_words};
 
-use super::Outcome;
+use super::{FaultAt, Outcome};
 use ecs_io::{Sink, WriteFailed, write_all};
 use itoa::Buffer;
 
@@ -15,7 +15,7 @@ pub fn report<E: Sink>(faults: &mut E, outcome: Outcome) -> Result<(), WriteFail
 {
     write_all(faults, words_of(outcome))?;
     match outcome {
-        Outcome::BadLine { line } => write_number(faults, line),
+        Outcome::BadInput { at } => write_number(faults, at.number()),
         _ => Ok(()),
     }
 }
@@ -26,7 +26,12 @@ fn words_of(outcome: Outcome) -> &'static [u8]
     match outcome {
         Outcome::Done => b"",
         Outcome::Usage => b"world: usage\n",
-        Outcome::BadLine { .. } => b"world: line ",
+        Outcome::BadInput {
+            at: FaultAt::Line { .. },
+        } => b"world: line ",
+        Outcome::BadInput {
+            at: FaultAt::Offset { .. },
+        } => b"world: offset ",
         Outcome::ReadFault => b"world: read fault\n",
         Outcome::WriteFault => b"world: write fault\n",
         Outcome::TooLong => b"world: input too long\n",

@@ -11,11 +11,14 @@ use std::test::Fail;
 
 mod apply;
 mod calls;
+mod canonical;
+mod generating;
 mod graph;
 mod groups;
+mod packing;
 mod running;
-mod snapshot;
 mod starting;
+mod streams;
 mod system_lines;
 mod systems;
 mod texts;
@@ -54,21 +57,25 @@ fn list_of(alloc: Global, words: &[&str]) -> Result<Vec<String>, Fail> {
     Ok(list)
 }
 
-fn plain_run(
+// How a call of the program ends over these streams.
+fn run_between(
     alloc: Global,
     words: &[&str],
     mut source: MemSource,
-    room: usize,
+    mut output: MemSink,
+    mut faults: MemSink,
 ) -> Result<Run, Fail> {
     let list = list_of(alloc, words)?;
-    let mut output = sink(alloc, room)?;
-    let mut faults = sink(alloc, 100)?;
     let status = plain(alloc, &list, &mut source, &mut output, &mut faults).number;
     Ok(Run {
         status,
         output,
         faults,
     })
+}
+
+fn plain_run(alloc: Global, words: &[&str], source: MemSource, room: usize) -> Result<Run, Fail> {
+    run_between(alloc, words, source, sink(alloc, room)?, sink(alloc, 100)?)
 }
 
 fn expect(rt: &impl Abort, run: &Run, status: u8, output: &[u8], told: &[u8]) {

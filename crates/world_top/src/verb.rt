@@ -1,9 +1,9 @@
 //! The commands, and the words that are one.
 
-ghost use Rattle.std.specs.Prelude.{◌≡◌};
-ghost use Rattle.world_top.specs.Words.{verb_named as verb_with, verb_of as verb_in};
+ghost use Rattle.std.specs.Prelude.{◌≡◌, IfSome};
+ghost use Rattle.world_top.specs.Words.{IsInRange, reads_input as reads_input_of, verb_named as verb_with, verb_of as verb_in};
 
-use super::options::run_with;
+use super::options::{gen_with, run_with};
 
 /// What the program's words ask for.
 #[derive(Clone, Copy, Debug, PartialEq, Eq)]
@@ -13,8 +13,8 @@ pub enum Verb {
     /// `apply`: read a document and a script, print the script's replies, and the canonical text of the
     /// document that it leaves.
     Apply,
-    /// `run` with `--ticks N` and `--workers W` in either order: read a document, run its systems, and print the canonical text of the
-    /// document that they leave.
+    /// `run` with `--ticks N` and `--workers W` in either order: read a document, run its systems, and
+    /// print the canonical text of the document that they leave.
     Run {
         /// For how many ticks, up to 1,000,000.
         ticks: u64,
@@ -23,21 +23,50 @@ pub enum Verb {
     },
     /// `graph`: read a document, and print which of its systems wait for which.
     Graph,
+    /// `pack`: read a document and print its binary snapshot.
+    Pack,
+    /// `unpack`: read a binary snapshot and print the canonical text of its document.
+    Unpack,
+    /// `gen NUMBER COUNT TICKS`: make a world, run its systems, and print the summary of the world that
+    /// they leave. No input is read.
+    Gen {
+        /// Which world is made.
+        number: u32,
+        /// Of how many entities, up to 1,000,000.
+        count: u32,
+        /// For how many ticks, up to 1,000,000.
+        ticks: u64,
+    },
+}
+
+impl Verb {
+    /// Whether the command reads its source, to the end. No memory.
+    pub fn reads_input(self) -> bool
+        ensures { result ≡ reads_input_of self }
+    {
+        match self {
+            Verb::Gen { .. } => false,
+            _ => true,
+        }
+    }
 }
 
 /// The command that words are. None where they are none. No memory.
 pub fn verb_of(words: &[String]) -> Option<Verb>
-    ensures { result ≡ verb_in words.now }
+    ensures verb { result ≡ verb_in words.now }
+    ensures range { IfSome result IsInRange }
 {
     match words {
         [word] => verb_named(word.as_str()),
         [name, options @ ..] if name.as_str() == "run" => run_with(options),
+        [name, numbers @ ..] if name.as_str() == "gen" => gen_with(numbers),
         _ => None,
     }
 }
 
 fn verb_named(name: &str) -> Option<Verb>
-    ensures { result ≡ verb_with name.now }
+    ensures verb { result ≡ verb_with name.now }
+    ensures range { IfSome result IsInRange }
 {
     if name == "snapshot" {
         return Some(Verb::Snapshot);
@@ -47,6 +76,12 @@ fn verb_named(name: &str) -> Option<Verb>
     }
     if name == "graph" {
         return Some(Verb::Graph);
+    }
+    if name == "pack" {
+        return Some(Verb::Pack);
+    }
+    if name == "unpack" {
+        return Some(Verb::Unpack);
     }
     None
 }

@@ -1,4 +1,4 @@
-use Rattle.std.proofs.Common.{◌≡◌, ◌<◌, ◌+◌, ap, arith, length, map, string_bytes}
+use Rattle.std.proofs.Common.{ap, arith, length, string_bytes}
 use Rattle.std.proofs.lemmas.List.{length-map}
 use Rattle.world_top.proofs.OptionLemmas.{apart_some, apart_upto}
 use Rattle.world_top.proofs.options.words_apart.Goals as goal

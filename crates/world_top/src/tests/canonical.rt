@@ -1,4 +1,4 @@
-//! Words, documents, and streams that fail.
+//! Documents printed, and words that are no command.
 
 use super::*;
 
@@ -24,39 +24,6 @@ fn the_first_bad_line_is_told(rt: HostRuntime) -> Result<(), Fail> {
         (b"", b"world: line 1\n"),
     ];
     try_bad(&rt, rt.alloc(), "snapshot", &rows)
-}
-
-#[test]
-fn a_failed_read_is_told(rt: HostRuntime) -> Result<(), Fail> {
-    let run = plain_run(
-        rt.alloc(),
-        &["snapshot"],
-        source(rt.alloc(), EMPTY, 4, &[1])?,
-        100,
-    )?;
-    expect(&rt, &run, 4, b"", b"world: read fault\n");
-    Ok(())
-}
-
-#[test]
-fn a_full_sink_is_told(rt: HostRuntime) -> Result<(), Fail> {
-    let run = plain_run(
-        rt.alloc(),
-        &["snapshot"],
-        source(rt.alloc(), EMPTY, 4, &[])?,
-        10,
-    )?;
-    expect(&rt, &run, 5, b"world 1\nti", b"world: write fault\n");
-    Ok(())
-}
-
-#[test]
-fn an_input_past_the_limit_is_told(rt: HostRuntime) -> Result<(), Fail> {
-    let bytes = vec![in rt.alloc(); b'a'; 67_108_865]?;
-    let long = MemSource::new(bytes, 1 << 20, counts(rt.alloc(), &[])?);
-    let run = plain_run(rt.alloc(), &["snapshot"], long, 100)?;
-    expect(&rt, &run, 6, b"", b"world: input too long\n");
-    Ok(())
 }
 
 #[test]

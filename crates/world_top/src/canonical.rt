@@ -8,7 +8,7 @@ use std::alloc::Global;
 use world_text::{Document, TextRefused, read_world, write_world};
 
 /// What `snapshot` prints for an input: the canonical text of the document that it is.
-pub fn snapshot(alloc: Global, input: Vec<u8>) -> Result<Vec<u8>, TextRefused>
+pub fn canonical_text(alloc: Global, input: Vec<u8>) -> Result<Vec<u8>, TextRefused>
     ensures ok { IfOk result (λ out. IsOutput Verb.Snapshot input.items out.items) }
     ensures cause { IfErr result (IsInputCause Verb.Snapshot input.items) }
 {
