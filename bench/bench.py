@@ -8,10 +8,12 @@ each run of it. They run by turns, so that a change in the machine's load meets 
 import argparse
 import array
 import filecmp
+import io
 import os
 import random
 import shlex
 import statistics
+import struct
 import sys
 import tempfile
 import time
@@ -19,6 +21,7 @@ from typing import Callable, NamedTuple, Optional, TextIO
 
 PROGRAM = os.path.join(os.path.dirname(os.path.dirname(os.path.realpath(__file__))), "crates/world/out/world")
 MOST_INPUT = 64 * 1024 * 1024  # bytes that the program reads
+COUNT = "COUNT"
 
 
 # The inputs
@@ -100,6 +103,60 @@ def draw_value(field: Optional[tuple[int, int]], versions: array.array, draws: D
         return "null"
     index = draws.below(len(versions))
     return f"{index}:{versions[index]}"
+
+
+def write_packed_document(out: TextIO, entities: int) -> None:
+    """Writes the binary snapshot of the plain document."""
+    text = io.StringIO()
+    write_plain_document(text, entities)
+    out.buffer.write(packed(text.getvalue()))
+
+
+def packed(text: str) -> bytearray:
+    """The binary snapshot of a canonical text, field by field as docs/FORMATS.md has them."""
+    lines = text.splitlines()
+    tick = next(place for place, line in enumerate(lines) if line.startswith("tick "))
+    header, body = lines[1:tick], [line.split(" ") for line in lines[tick + 1 : -1]]
+    kinds = iter([line.split(" ")[2:] for line in header if line.startswith("component ")])
+    counts = iter(count_rows(body))
+    slots = sum(line[0] in ("live", "free") for line in body)
+
+    fields = bytearray(b"WORLDSNP" + struct.pack("<II", 1, len(header)))
+    for line in header:
+        fields += struct.pack("<H", len(line)) + line.encode("ascii")
+    fields += struct.pack("<QI", int(lines[tick].split(" ")[1]), slots)
+    for word, *words in body:
+        if word == "row":
+            index = int(words[0].split(":")[0])
+            fields += struct.pack("<I", index) + b"".join(map(packed_value, kinds_now, words[1:]))
+        elif word == "pool":
+            kinds_now = next(kinds)
+            fields += struct.pack("<I", next(counts))
+        elif word == "next":
+            fields += struct.pack("<I", int(words[0]))
+        else:
+            fields += struct.pack("<BI", word == "live", int(words[0]))
+    return fields
+
+
+def count_rows(body: list[list[str]]) -> list[int]:
+    """How many row lines stand behind each pool line."""
+    counts: list[int] = []
+    for line in body:
+        if line[0] == "pool":
+            counts.append(0)
+        elif line[0] == "row":
+            counts[-1] += 1
+    return counts
+
+
+def packed_value(kind: str, value: str) -> bytes:
+    """A value of this kind, in 8 bytes."""
+    if kind == "int":
+        return struct.pack("<q", int(value))
+    if value == "null":
+        return b"\xff" * 8
+    return struct.pack("<II", *map(int, value.split(":")))
 
 
 # The components of the script's document, each with its number of fields, all `int`.
@@ -228,8 +285,15 @@ def write_chain(out: TextIO, systems: int) -> None:
     out.write("tick 0\n" + "".join(f"pool {name}\n" for name in names) + "end\n")
 
 
+def write_nothing(out: TextIO, entities: int) -> None:
+    """Writes nothing: the program makes so many entities itself."""
+
+
 class Workload(NamedTuple):
-    """What is measured: the program's words, what its input counts, how many of it, and what writes so many."""
+    """What is measured: the program's words, what its input counts, how many of it, and what writes so many.
+
+    The word COUNT stands for how many of it.
+    """
 
     name: str
     words: list[str]
@@ -244,6 +308,9 @@ WORKLOADS = [
     Workload("run", ["run", "--ticks", "50", "--workers", "1"], "entities", 100_000, write_arena),
     Workload("graph", ["graph"], "systems", 64, write_graph),
     Workload("chain", ["graph"], "systems", 64, write_chain),
+    Workload("pack", ["pack"], "entities", 400_000, write_plain_document),
+    Workload("unpack", ["unpack"], "entities", 400_000, write_packed_document),
+    Workload("gen", ["gen", "7", COUNT, "100"], "entities", 100_000, write_nothing),
 ]
 
 
@@ -338,7 +405,8 @@ def run_workload(workload: Workload, options: argparse.Namespace, folder: str) -
     outputs = [os.path.join(folder, f"output-{number}") for number in range(len(programs))]
     size = write_input(workload, count, input_path)
     print(f"{workload.name}: {count} {workload.counted}, {size} bytes, {options.runs} runs each", flush=True)
-    summaries = measure([program + workload.words for program in programs], input_path, outputs, options.runs)
+    words = [str(count) if word is COUNT else word for word in workload.words]
+    summaries = measure([program + words for program in programs], input_path, outputs, options.runs)
     print_summaries(summaries, size)
     if len(outputs) < 2:
         return True
