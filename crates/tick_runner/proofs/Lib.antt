@@ -1,9 +1,14 @@
 pub mod CarryLemmas
 pub mod FoldLemmas
+pub mod LentLemmas
 pub mod ListLemmas
 pub mod NumberLemmas
 pub mod PutLemmas
 pub mod RunLemmas
+pub mod SharingLemmas
+pub mod SideLemmas
 pub mod SpawningLemmas
 pub mod TickLemmas
+pub mod VersionLemmas
 pub mod WalkLemmas
+pub mod WorkLemmas

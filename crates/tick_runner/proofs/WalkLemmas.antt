@@ -38,7 +38,7 @@ lent-step : (b : Bool) (P : LentPool → Type 0) (w : LentPool) (n : ℕ) (rest 
 lent-step true P w n rest c e here later named = (here, eqb-true w.number n e)
 lent-step false P w n rest c e here later named = later named
 
-lent_at : (P : LentPool → Type 0) (ws : List LentPool) (n : ℕ) → AllByRecursion P ws → has_pool (numbers ws) n ≡ true
+pub lent_at : (P : LentPool → Type 0) (ws : List LentPool) (n : ℕ) → AllByRecursion P ws → has_pool (numbers ws) n ≡ true
     → P (unwrap_or (find (λ (pool : LentPool). eqb pool.number n) ws) no_pool) × ((unwrap_or (find (λ (pool : LentPool). eqb pool.number n) ws) no_pool).number ≡ n)
 lent_at P [] n all named = absurd (cc)
 lent_at P (w ∷ ws) n all named = lent-step (eqb w.number n) P w n (find (λ (pool : LentPool). eqb pool.number n) ws) (has_pool (numbers ws) n) refl all.0 (lent_at P ws n all.1) named
@@ -73,7 +73,7 @@ keys_at [] n = refl
 keys_at (rows ∷ maps) zero = refl
 keys_at (rows ∷ maps) (suc n) = keys_at maps n
 
-same_members : (access : Access) (a b : Maps) → ((n : ℕ) → has_pool (own_pools access) n ≡ true → slice_get a n ≡ slice_get b n) → ((n : ℕ) → has_pool access.without n ≡ true → slice_get a n ≡ slice_get b n)
+pub same_members : (access : Access) (a b : Maps) → ((n : ℕ) → has_pool (own_pools access) n ≡ true → slice_get a n ≡ slice_get b n) → ((n : ℕ) → has_pool access.without n ≡ true → slice_get a n ≡ slice_get b n)
     → members access a ≡ members access b
 same_members access a b own out =
     same_matches (map entries.keys a) (map entries.keys b) (own_pools access) access.without
@@ -82,12 +82,12 @@ same_members access a b own out =
 
 -- ---- a walk along a prefix
 
-own_lent : (r w l x : Bool) → (r || w) ≡ true → (w || ((r || l) || x)) ≡ true
+pub own_lent : (r w l x : Bool) → (r || w) ≡ true → (w || ((r || l) || x)) ≡ true
 own_lent r true l x named = refl
 own_lent true false l x named = refl
 own_lent false false l x named = absurd (cc)
 
-out_lent : (r w l x : Bool) → x ≡ true → (w || ((r || l) || x)) ≡ true
+pub out_lent : (r w l x : Bool) → x ≡ true → (w || ((r || l) || x)) ≡ true
 out_lent r true l x named = refl
 out_lent true false l x named = refl
 out_lent false false true x named = refl
@@ -129,7 +129,7 @@ module _ (access : Access) (register : Register) (pools old : List (Stored Row))
             (subst (IsPermutation (take count (packed_at (packed_of old) pool))) (same_members access (maps_of old) maps (λ n named. told n (own_named n named)) (λ n named. told n (out_named n named))) begins.first);
       }
 
-some_weaker : (P Q : ℕ × ℕ → Type 0) (o : Option (ℕ × ℕ)) → ((x : ℕ × ℕ) → P x → Q x) → IfSome o P → IfSome o Q
+pub some_weaker : (P Q : ℕ × ℕ → Type 0) (o : Option (ℕ × ℕ)) → ((x : ℕ × ℕ) → P x → Q x) → IfSome o P → IfSome o Q
 some_weaker P Q None weaker is = is
 some_weaker P Q (Some x) weaker is = weaker x is
 

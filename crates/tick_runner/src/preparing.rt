@@ -69,7 +69,7 @@ pub fn buffers_for<S: System>(
 }
 
 // For each system the prefix along which it may walk, if one is known.
-fn prefixes_for<S: System, L: Listener>(
+pub fn prefixes_for<S: System, L: Listener>(
     alloc: Global,
     systems: &[S],
     shell: &Shell<L>,
