@@ -1,5 +1,5 @@
 -- Which words of the program are which command.
-use Rattle.std.specs.Prelude.{ℕ, ◌-◌, ◌^◌, ◌≤◌, ◌&&◌, Bool, true, false, nat_le, List, [], ◌∷◌, take, drop, Option, Some, None, codes, string_bytes, if◌then◌else◌}
+use Rattle.std.specs.Prelude.{ℕ, ◌-◌, ◌^◌, ◌<◌, ◌≤◌, ◌&&◌, Bool, true, false, nat_le, List, [], ◌∷◌, take, drop, Option, Some, None, codes, string_bytes, if◌then◌else◌}
 use Rattle.std.specs.List.{flat_map}
 use Rattle.std.specs.Fmt.{decimal}
 use Rattle.std.specs.Str.{bytes_eq}
@@ -108,3 +108,18 @@ IsInRange Graph = Unit {0}
 IsInRange Pack = Unit {0}
 IsInRange Unpack = Unit {0}
 IsInRange (Gen number count ticks) = (count ≤ entity_count_limit) × (ticks ≤ tick_count_limit)
+
+-- how many workers a command has: a run those that it is told to have, and any other one
+abbrev pub workers_of : Verb → ℕ
+workers_of Snapshot = 1
+workers_of Apply = 1
+workers_of (Run ticks workers) = workers
+workers_of Graph = 1
+workers_of Pack = 1
+workers_of Unpack = 1
+workers_of (Gen number count ticks) = 1
+
+-- a command has from 1 up to so many workers as words can ask for. Each that words are has
+pub record HasWorkers (verb : Verb) : Type 0 where
+  pub some : 0 < workers_of verb
+  pub most : workers_of verb ≤ worker_limit

@@ -5,7 +5,6 @@ ghost use Rattle.world_top.specs.Output.{IsGenerated};
 ghost use Rattle.world_top.specs.Words.{tick_count_limit};
 
 use super::run::run_all;
-use super::ticker::OneThread;
 use entity_id::OutOfMemory;
 use registry::Registry;
 use std::alloc::Global;
@@ -29,14 +28,6 @@ pub fn generate(alloc: Global, number: u32, count: u32, ticks: u64) -> Result<Ve
         tick,
         ..
     } = world;
-    let after = run_all(
-        alloc,
-        &OneThread,
-        registry,
-        profile,
-        systems.as_slice(),
-        tick,
-        ticks,
-    )?;
+    let after = run_all(alloc, registry, profile, systems.as_slice(), tick, ticks)?;
     summary(alloc, &after, decls.as_slice(), tick + ticks)
 }

@@ -22,8 +22,9 @@ mod program;
 mod refused;
 mod reporting;
 mod run;
+mod sharing;
 mod starting;
-mod ticker;
+mod team;
 mod verb;
 mod watching;
 
@@ -36,7 +37,7 @@ pub use output_laws::{
     every_input_is_answered, one_output, packs_are_unpacked, runs_in_parts,
     ticks_keep_documents_lawful,
 };
-pub use program::{plain, top};
+pub use program::{plain, top, top_gated};
 pub use starting::start;
 pub use verb::Verb;
 

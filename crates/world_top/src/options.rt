@@ -1,7 +1,7 @@
 //! The options of `run`, and the numbers of `gen`.
 
 ghost use Rattle.std.specs.Prelude.{◌≡◌, ◌<◌, ◌∷◌, [], length, map, IfSome, IsNone, MatchOption};
-ghost use Rattle.world_top.specs.Words.{IsInRange, apart, gen_with as gen_in, number_between as number_in, options_apart};
+ghost use Rattle.world_top.specs.Words.{HasWorkers, IsInRange, apart, gen_with as gen_in, number_between as number_in, options_apart};
 ghost use Rattle.world_top.specs.Words.{run_spelled as run_with_numbers, run_with as run_in};
 
 use super::Verb;
@@ -25,6 +25,7 @@ const WORD_COUNT: usize = 4;
 pub fn run_with(options: &[String]) -> Option<Verb>
     ensures verb { result ≡ run_in (options_apart options.now) }
     ensures range { IfSome result IsInRange }
+    ensures workers { IfSome result HasWorkers }
 {
     let words = words_apart(options)?;
     match words.as_slice() {
@@ -37,6 +38,7 @@ pub fn run_with(options: &[String]) -> Option<Verb>
 fn run_of(first: &[u8], x: &[u8], second: &[u8], y: &[u8]) -> Option<Verb>
     ensures verb { result ≡ run_in (first.now ∷ x.now ∷ second.now ∷ y.now ∷ []) }
     ensures range { IfSome result IsInRange }
+    ensures workers { IfSome result HasWorkers }
 {
     if first == b"--ticks".as_slice() && second == b"--workers".as_slice() {
         return run_spelled(x, y);
@@ -90,6 +92,7 @@ fn split_option(word: &[u8]) -> (&[u8], Option<&[u8]>)
 fn run_spelled(ticks: &[u8], workers: &[u8]) -> Option<Verb>
     ensures verb { result ≡ run_with_numbers ticks.now workers.now }
     ensures range { IfSome result IsInRange }
+    ensures workers { IfSome result HasWorkers }
 {
     let ticks = number_between(0, TICK_COUNT_LIMIT, ticks)?;
     let workers = number_between(1, WORKER_LIMIT, workers)?;
@@ -101,6 +104,7 @@ fn run_spelled(ticks: &[u8], workers: &[u8]) -> Option<Verb>
 pub fn gen_with(words: &[String]) -> Option<Verb>
     ensures verb { result ≡ gen_in words.now }
     ensures range { IfSome result IsInRange }
+    ensures workers { IfSome result HasWorkers }
 {
     let [number, count, ticks] = words else {
         return None;

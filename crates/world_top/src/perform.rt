@@ -10,19 +10,22 @@ use super::graph::graph;
 use super::pack::{pack, unpack};
 use super::refused::InputRefused;
 use super::run::run;
-use super::ticker::Ticker;
+use super::sharing::run_by;
+use super::team::Team;
 use super::{Outcome, Verb};
 use ecs_io::{ReadRefused, Sink, Source, read_all, write_all};
 use std::alloc::Global;
+use std::sync::Wait;
+use std::thread::Threads;
+use tick_runner::Gate;
 
 // The longest input that the program reads.
 const INPUT_LIMIT: usize = 67_108_864;
 
-/// Prints what a command makes of the input that the source gives, if it takes any; this ticker carries
-/// out the ticks of `run`. All output is made before any is written.
-pub fn perform<T: Ticker, S: Source, K: Sink>(
+/// Prints what a command makes of the input that the source gives, if it takes any. All output is made
+/// before any is written.
+pub fn perform<S: Source, K: Sink>(
     alloc: Global,
-    ticker: &T,
     verb: Verb,
     source: &mut S,
     sink: &mut K,
@@ -39,7 +42,37 @@ pub fn perform<T: Ticker, S: Source, K: Sink>(
         })
         (K.holds sink.old) (K.holds sink.new) result }
 {
-    let out = match output(alloc, ticker, verb, source) {
+    let out = match output(alloc, verb, source) {
+        Ok(out) => out,
+        Err(outcome) => return outcome,
+    };
+    match write_all(sink, &out) {
+        Ok(()) => Outcome::Done,
+        Err(_) => Outcome::WriteFault,
+    }
+}
+
+/// As [`perform`], with the ticks of `run` carried out by a team.
+pub fn perform_by<R: Threads + Wait + Sync, T: Gate + Sync, S: Source, K: Sink>(
+    team: &Team<'_, R, T>,
+    alloc: Global,
+    verb: Verb,
+    source: &mut S,
+    sink: &mut K,
+) -> Outcome
+    requires { IsInRange verb }
+    ensures { MeansFor (Some verb)
+        (record {
+          input = S.left source.old;
+          rest = S.left source.new;
+          reads_before = S.faults source.old;
+          reads_after = S.faults source.new;
+          writes_before = K.faults sink.old;
+          writes_after = K.faults sink.new;
+        })
+        (K.holds sink.old) (K.holds sink.new) result }
+{
+    let out = match output_by(team, alloc, verb, source) {
         Ok(out) => out,
         Err(outcome) => return outcome,
     };
@@ -50,9 +83,27 @@ pub fn perform<T: Ticker, S: Source, K: Sink>(
 }
 
 // What a command makes of its input.
-fn output<T: Ticker, S: Source>(
+fn output<S: Source>(alloc: Global, verb: Verb, source: &mut S) -> Result<Vec<u8>, Outcome>
+    requires { IsInRange verb }
+    ensures ok { IfOk result (λ out. Takes (reads_input_of verb)
+        (S.left source.old) (S.left source.new) (λ input. IsOutput verb input out.items)) }
+    ensures err { IfErr result
+        (IsRefusal verb
+        (S.left source.old) (S.left source.new) (S.faults source.old) (S.faults source.new)) }
+    ensures unread { reads_input_of verb ≡ false → IsUnread
+        (S.left source.old) (S.left source.new) (S.faults source.old) (S.faults source.new) }
+{
+    let input = input_for(alloc, verb, source)?;
+    match output_of(alloc, verb, input) {
+        Ok(out) => Ok(out),
+        Err(refused) => Err(outcome_of(refused)),
+    }
+}
+
+// What a command makes of its input, with the ticks of `run` carried out by a team.
+fn output_by<R: Threads + Wait + Sync, T: Gate + Sync, S: Source>(
+    team: &Team<'_, R, T>,
     alloc: Global,
-    ticker: &T,
     verb: Verb,
     source: &mut S,
 ) -> Result<Vec<u8>, Outcome>
@@ -66,7 +117,7 @@ fn output<T: Ticker, S: Source>(
         (S.left source.old) (S.left source.new) (S.faults source.old) (S.faults source.new) }
 {
     let input = input_for(alloc, verb, source)?;
-    match output_of(alloc, ticker, verb, input) {
+    match made_by(team, alloc, verb, input) {
         Ok(out) => Ok(out),
         Err(refused) => Err(outcome_of(refused)),
     }
@@ -104,12 +155,7 @@ fn outcome_of(refused: InputRefused) -> Outcome
 }
 
 // What a command makes of an input.
-fn output_of<T: Ticker>(
-    alloc: Global,
-    ticker: &T,
-    verb: Verb,
-    input: Vec<u8>,
-) -> Result<Vec<u8>, InputRefused>
+fn output_of(alloc: Global, verb: Verb, input: Vec<u8>) -> Result<Vec<u8>, InputRefused>
     requires { IsInRange verb }
     ensures ok { IfOk result (λ out. IsOutput verb input.items out.items) }
     ensures cause { IfErr result (IsOutputCause verb input.items) }
@@ -117,7 +163,7 @@ fn output_of<T: Ticker>(
     match verb {
         Verb::Snapshot => Ok(canonical_text(alloc, input)?),
         Verb::Apply => Ok(apply(alloc, &input)?),
-        Verb::Run { ticks, .. } => run(alloc, ticker, ticks, input),
+        Verb::Run { ticks, .. } => run(alloc, ticks, input),
         Verb::Graph => Ok(graph(alloc, input)?),
         Verb::Pack => Ok(pack(alloc, input)?),
         Verb::Unpack => Ok(unpack(alloc, input)?),
@@ -126,5 +172,22 @@ fn output_of<T: Ticker>(
             count,
             ticks,
         } => Ok(generate(alloc, number, count, ticks)?),
+    }
+}
+
+// What a command makes of an input, with the ticks of `run` carried out by a team.
+fn made_by<R: Threads + Wait + Sync, T: Gate + Sync>(
+    team: &Team<'_, R, T>,
+    alloc: Global,
+    verb: Verb,
+    input: Vec<u8>,
+) -> Result<Vec<u8>, InputRefused>
+    requires { IsInRange verb }
+    ensures ok { IfOk result (λ out. IsOutput verb input.items out.items) }
+    ensures cause { IfErr result (IsOutputCause verb input.items) }
+{
+    match verb {
+        Verb::Run { ticks, .. } => run_by(team, alloc, ticks, input),
+        _ => output_of(alloc, verb, input),
     }
 }

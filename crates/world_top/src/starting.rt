@@ -20,7 +20,7 @@ use std::thread::Threads;
 /// name, to the code that it exits with. It is the number of [`top`] for the words behind the name; 2
 /// where the arguments are no text, which is told as other words that are no command; and 7 where there
 /// is no memory for them.
-pub fn start<R: Threads + Wait, S: Source, K: Sink, E: Sink>(
+pub fn start<R: Threads + Wait + Sync, S: Source, K: Sink, E: Sink>(
     rt: &R,
     alloc: Global,
     arguments: io::Result<Args>,
@@ -62,7 +62,7 @@ pub fn start<R: Threads + Wait, S: Source, K: Sink, E: Sink>(
     status.exit_code()
 }
 
-fn start_with<R: Threads + Wait, S: Source, K: Sink, E: Sink>(
+fn start_with<R: Threads + Wait + Sync, S: Source, K: Sink, E: Sink>(
     rt: &R,
     alloc: Global,
     arguments: Args,

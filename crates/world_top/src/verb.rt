@@ -1,7 +1,7 @@
 //! The commands, and the words that are one.
 
 ghost use Rattle.std.specs.Prelude.{◌≡◌, IfSome};
-ghost use Rattle.world_top.specs.Words.{IsInRange, reads_input as reads_input_of, verb_named as verb_with, verb_of as verb_in};
+ghost use Rattle.world_top.specs.Words.{HasWorkers, IsInRange, reads_input as reads_input_of, verb_named as verb_with, verb_of as verb_in, workers_of};
 
 use super::options::{gen_with, run_with};
 
@@ -49,12 +49,24 @@ impl Verb {
             _ => true,
         }
     }
+
+    /// How many threads carry the command out: 1, but for a run that is told to have more. No memory.
+    pub fn workers(self) -> u32
+        requires { HasWorkers self }
+        ensures { result ≡ workers_of self }
+    {
+        match self {
+            Verb::Run { workers, .. } => workers as u32,
+            _ => 1,
+        }
+    }
 }
 
 /// The command that words are. None where they are none. No memory.
 pub fn verb_of(words: &[String]) -> Option<Verb>
     ensures verb { result ≡ verb_in words.now }
     ensures range { IfSome result IsInRange }
+    ensures workers { IfSome result HasWorkers }
 {
     match words {
         [word] => verb_named(word.as_str()),
@@ -67,6 +79,7 @@ pub fn verb_of(words: &[String]) -> Option<Verb>
 fn verb_named(name: &str) -> Option<Verb>
     ensures verb { result ≡ verb_with name.now }
     ensures range { IfSome result IsInRange }
+    ensures workers { IfSome result HasWorkers }
 {
     if name == "snapshot" {
         return Some(Verb::Snapshot);

@@ -8,14 +8,14 @@ use Rattle.world_top.proofs.RunningLemmas.{left_is_lawful, left_printed}
 use Rattle.world_top.proofs.run.text_after.Goals as goal
 
 pub finish-requires : goal.finish-requires
-finish-requires g c =
+finish-requires c =
     let document = c.args.document in
     let loaded = c.in_ok-registry.ensures.world in
     let after = subst (λ (systems : List System). IsAfter c.in_ok-registry.registry c.in_ok-after.after (map (system_effect document.world.profile) systems) document.world.tick c.args.ticks) c.as_slice.ensures c.in_ok-after.ensures in
     left_is_lawful document c.in_ok-registry.registry c.in_ok-after.after c.args.ticks (ap (λ (h : Held). h.limit) loaded) (ap (world_at document.world.tick) loaded) after c.requires.lawful c.requires.within
 
 pub returns : goal.returns
-returns g c =
+returns c =
     let document = c.args.document in
     let loaded = c.in_ok-registry.ensures.world in
     let new = c.in_ok-after.after in

@@ -1,7 +1,7 @@
 use Rattle.world_top.specs.Running.{effects_of}
 use Rattle.world_top.proofs.LiveLemmas.{map_if}
 use Rattle.world_top.proofs.RunningLemmas.{ticked}
-use Rattle.world_top.proofs.ticker.OneThreadTicker.tick.Goals as goal
+use Rattle.world_top.proofs.run.run_tick.Goals as goal
 
 pub returns : goal.returns
 returns c = map_if c.tick_plain.result (λ new ticks. ticked c.args.registry new (effects_of c.args.systems.now) c.args.tick ticks) c.tick_plain.ensures
