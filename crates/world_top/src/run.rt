@@ -110,8 +110,8 @@ fn run_ticks(
     Ok(now)
 }
 
-// One tick: every system once, and then the orders.
-fn run_tick(
+/// One tick: every system once, and then the orders.
+pub fn run_tick(
     alloc: Global,
     registry: Registry<Recorder>,
     systems: &[RowSystem<'_>],

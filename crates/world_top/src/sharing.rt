@@ -15,7 +15,7 @@ ghost use Rattle.world_top.specs.Ticking.{document_after_ticks};
 use super::apply::finish;
 use super::canonical::read_document;
 use super::refused::InputRefused;
-use super::run::systems_of;
+use super::run::{run_tick, systems_of};
 use super::team::Team;
 use entity_id::{OutOfMemory, Profile};
 use registry::Registry;
@@ -118,7 +118,8 @@ fn run_ticks_by<R: Threads + Wait + Sync, T: Gate + Sync>(
     Ok(now)
 }
 
-// One tick: every system once, and then the orders.
+// One tick: every system once, and then the orders. No more workers are started than there are systems,
+// and none for one system or no system.
 fn run_tick_by<R: Threads + Wait + Sync, T: Gate + Sync>(
     team: &Team<'_, R, T>,
     alloc: Global,
@@ -131,13 +132,17 @@ fn run_tick_by<R: Threads + Wait + Sync, T: Gate + Sync>(
     requires fit { AreFit registry.world.profile registry.world.decls systems.now }
     ensures { IfOk result (λ new. IsAfter registry new (effects_of systems.now) tick 1) }
 {
+    let count = systems.len() as u32;
+    if count < 2 {
+        return run_tick(alloc, registry, systems, tick);
+    }
     tick_shared(
         team.rt,
         alloc,
         registry,
         systems,
         tick,
-        team.workers,
+        team.workers.min(count),
         team.gate,
     )
 }
