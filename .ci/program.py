@@ -18,11 +18,11 @@ class Ending(NamedTuple):
     told: bytes
 
 
-def run(words, program=PROGRAM, text=None, **streams):
+def run(words, program=PROGRAM, text=None, seconds=SECONDS, **streams):
     """Runs the program with these words, on this text where there is one. What a stream takes that was
     handed in counts as nothing."""
     streams = {"stdout": subprocess.PIPE, "stderr": subprocess.PIPE} | streams
-    ended = subprocess.run([program, *words], input=text, timeout=SECONDS, **streams)
+    ended = subprocess.run([program, *words], input=text, timeout=seconds, **streams)
     return Ending(ended.returncode, ended.stdout or b"", ended.stderr or b"")
 
 
@@ -38,6 +38,10 @@ class Trials:
 
     def __init__(self):
         self.failed = False
+
+    def run(self, words, **how):
+        """Runs what is tried: the built program."""
+        return run(words, **how)
 
     def fail(self, message):
         """Tells what is wrong."""

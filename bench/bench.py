@@ -17,7 +17,7 @@ import struct
 import sys
 import tempfile
 import time
-from typing import Callable, NamedTuple, Optional, TextIO
+from typing import Callable, Iterable, NamedTuple, Optional, TextIO
 
 PROGRAM = os.path.join(os.path.dirname(os.path.dirname(os.path.realpath(__file__))), "crates/world/out/world")
 MOST_INPUT = 64 * 1024 * 1024  # bytes that the program reads
@@ -190,14 +190,14 @@ class LiveEntities:
         self.free.append(index)
 
 
-def write_script(out: TextIO, commands: int) -> None:
-    """Writes a document of components alone, and behind it a script of so many commands."""
+def write_script(out: TextIO, commands: int, groups: str = "") -> None:
+    """Writes a document of components alone, and of lines of groups, and behind it a script of so many commands."""
     draws = Draws(commands)
     entities = LiveEntities()
     out.write("world 1\n")
     for name, fields in SCRIPT_COMPONENTS:
         out.write(" ".join(["component", name] + ["int"] * fields) + "\n")
-    out.write("tick 0\n")
+    out.write(groups + "tick 0\n")
     for name, _ in SCRIPT_COMPONENTS:
         out.write(f"pool {name}\n")
     out.write("end\nscript\n")
@@ -228,6 +228,53 @@ def draw_command(entities: LiveEntities, draws: Draws) -> str:
         entities.destroy(place)
         return f"destroy {entity}"
     return f"valid {entity}"
+
+
+# Two groups of which the second is inner to the first, and one that is apart from both.
+SCRIPT_GROUPS = """\
+group own position velocity not frozen
+group own position velocity get health not frozen
+group own team get tag
+"""
+
+
+def write_grouped_script(out: TextIO, commands: int) -> None:
+    """Writes the same script behind a document that has groups too."""
+    write_script(out, commands, SCRIPT_GROUPS)
+
+
+def write_patches(out: TextIO, commands: int) -> None:
+    """Writes a document with a tenth as many entities, each with a row, and a script that patches fields of these rows."""
+    draws = Draws(commands)
+    entities = max(commands // 10, 1)
+    out.write("world 1\ncomponent position int int\ntick 0\n" + "live 0\n" * entities + "pool position\n")
+    out.writelines(f"row {index}:0 0 0\n" for index in range(entities))
+    out.write("end\nscript\n")
+    for _ in range(commands):
+        entity, field = draws.below(entities), draws.below(2)
+        out.write(f"patch {entity}:0 position.{field} {draws.between(-1000, 999)}\n")
+    out.write("end\n")
+
+
+SORTS = 10
+
+
+def write_sorts(out: TextIO, keys: Iterable[int]) -> None:
+    """Writes a document with a row for each key, and a script that sorts the pool by them, again and again."""
+    keys = list(keys)
+    out.write("world 1\ncomponent key int\ntick 0\n" + "live 0\n" * len(keys) + "pool key\n")
+    out.writelines(f"row {index}:0 {key}\n" for index, key in enumerate(keys))
+    out.write("end\nscript\n" + "sort pool key.0\n" * SORTS + "end\n")
+
+
+def write_equal_sorts(out: TextIO, rows: int) -> None:
+    """Keys that are all equal."""
+    write_sorts(out, [7] * rows)
+
+
+def write_ascending_sorts(out: TextIO, rows: int) -> None:
+    """Keys that ascend with the indices."""
+    write_sorts(out, range(rows))
 
 
 # The components of the example `arena.world`.
@@ -305,6 +352,10 @@ class Workload(NamedTuple):
 WORKLOADS = [
     Workload("snapshot", ["snapshot"], "entities", 1_000_000, write_plain_document),
     Workload("apply", ["apply"], "commands", 1_000_000, write_script),
+    Workload("apply-groups", ["apply"], "commands", 1_000_000, write_grouped_script),
+    Workload("apply-patch", ["apply"], "commands", 1_000_000, write_patches),
+    Workload("sort-equal", ["apply"], "keys", 100_000, write_equal_sorts),
+    Workload("sort-ascending", ["apply"], "keys", 100_000, write_ascending_sorts),
     Workload("run", ["run", "--ticks", "50", "--workers", "1"], "entities", 100_000, write_arena),
     Workload("graph", ["graph"], "systems", 64, write_graph),
     Workload("chain", ["graph"], "systems", 64, write_chain),
@@ -419,7 +470,7 @@ def main() -> int:
     """Measures the workloads. The status is 1 where outputs differ."""
     options = parse_options()
     if not os.path.exists(PROGRAM):
-        sys.exit(f"{PROGRAM} isn't built: start bin/world once")
+        sys.exit(f"{PROGRAM} isn't built: run bin/prove")
     chosen = [workload for workload in WORKLOADS if options.workload in (None, workload.name)]
     with tempfile.TemporaryDirectory() as folder:
         equal = [run_workload(workload, options, folder) for workload in chosen]

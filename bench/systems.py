@@ -90,7 +90,7 @@ def main() -> int:
     """Measures both documents. The status is 1 where one isn't printed as it was."""
     options = parse_options()
     if not os.path.exists(PROGRAM):
-        sys.exit(f"{PROGRAM} isn't built: start bin/world once")
+        sys.exit(f"{PROGRAM} isn't built: run bin/prove")
     with tempfile.TemporaryDirectory() as folder:
         equal = [run_document(name, draw, options, folder) for name, draw in [("short", draw_short), ("long", draw_long)]]
     return 0 if all(equal) else 1
