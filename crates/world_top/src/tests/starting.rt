@@ -8,7 +8,7 @@ use std::sync::Wait;
 use std::thread::Threads;
 
 // The code that the program exits with, and whether it wrote and told this.
-fn started<R: Abort + Threads + Wait>(
+fn started<R: Abort + Threads + Wait + Sync>(
     rt: &R,
     alloc: Global,
     arguments: io::Result<Args>,
