@@ -36,7 +36,7 @@ fn names(access: &Access, pool: u32) -> bool
 }
 
 // Whether a list of pools has this one.
-fn has_pool(pools: &[u32], pool: u32) -> bool
+pub(crate) fn has_pool(pools: &[u32], pool: u32) -> bool
     ensures { result ≡ has_pool pools.now pool }
 {
     pools.iter().any(|other| *other == pool)

@@ -10,6 +10,7 @@
 //! of them can be left out, stand in `src/laws.rt`, worked examples in `proofs/Worked*.antt`.
 #![tactic(auto)]
 
+mod accesses;
 mod building;
 mod conflicting;
 mod edge;
@@ -17,7 +18,9 @@ mod graph;
 mod laws;
 mod steps;
 mod systems;
+mod writing;
 
+pub use accesses::{Accesses, copy_access};
 pub use conflicting::conflicts;
 pub use edge::Edge;
 pub use graph::Graph;
@@ -26,6 +29,7 @@ pub use laws::{
     systems_have_edges, waves_rise,
 };
 pub use systems::{SYSTEM_LIMIT, Systems};
+pub use writing::{need, writers};
 
 #[cfg(test)]
 mod tests;

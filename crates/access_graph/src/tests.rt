@@ -62,6 +62,32 @@ fn readers_run_between_two_writers(rt: HostRuntime) {
 }
 
 #[test]
+fn a_system_needs_what_the_writers_before_it_leave(rt: HostRuntime) {
+    let alloc = rt.alloc();
+    let mut systems = Accesses::new(alloc);
+    for write in [
+        [0].as_slice(),
+        [].as_slice(),
+        [0, 1].as_slice(),
+        [0].as_slice(),
+    ] {
+        let system = access(&rt, alloc, &[], write, &[2], &[]);
+        systems.push_copy(&system).expect(&rt, "memory");
+    }
+    let accesses = systems.as_slice();
+    assert_eq!(rt; accesses.len(), 4);
+    for (pool, count) in [(0, 3), (1, 1), (2, 0)] {
+        assert_eq!(rt; writers(accesses, pool), count, "at {pool}");
+    }
+    for (system, count) in [(0, 0), (1, 1), (2, 1), (3, 2), (4, 3)] {
+        assert!(rt; system <= 4);
+        assert_eq!(rt; need(accesses, system, 0), count, "before {system}");
+    }
+    assert_eq!(rt; accesses[2].write.as_slice(), [0, 1].as_slice());
+    assert_eq!(rt; accesses[2].look.as_slice(), [2].as_slice());
+}
+
+#[test]
 fn an_implied_edge_is_left_out(rt: HostRuntime) {
     let alloc = rt.alloc();
     let systems = [
