@@ -1,0 +1,9 @@
+pub mod ChoiceLemmas
+pub mod ConflictLemmas
+pub mod FactLemmas
+pub mod KeepLemmas
+pub mod KeepingLemmas
+pub mod PlaceLemmas
+pub mod ScheduleLemmas
+pub mod TurnLemmas
+pub mod VersionLemmas
