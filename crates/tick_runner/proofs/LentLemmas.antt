@@ -1,9 +1,11 @@
 -- One system on pools that were lent by turns.
-use Rattle.std.proofs.Common.{◌≡◌, ℕ, zero, suc, ◌+◌, ◌<◌, ◌≤◌, ◌^◌, Bool, true, false, ◌||◌, ◌&&◌, eqb, List, [], ◌∷◌, ◌++◌, map, length, take, drop, get_or, Option, Some, None, slice_get, refl, sym, ap, ap₂, ◌∙◌, subst, arith}
-use Rattle.std.specs.Prelude.{IfSome, IsTrue, is_some}
+use Rattle.std.proofs.Common.{◌≡◌, ℕ, zero, suc, ◌<◌, ◌≤◌, true, ◌||◌, ◌&&◌, List, [], ◌∷◌, ◌++◌, map, length, take, drop, get_or, Option, Some, slice_get, refl, sym, ap, ap₂, ◌∙◌, subst, arith}
+use Rattle.std.specs.Prelude.{IfSome}
 use Rattle.std.specs.List.{AllByRecursion, AllZip}
 use Rattle.std.specs.List.Sorted.{IsPermutation}
+use Rattle.std.specs.Option.{option_map}
 use Rattle.std.proofs.lemmas.List.{map-append, length-map, length-append}
+use Rattle.std.proofs.lemmas.Option.{none-some, same_Some, slice_get-map}
 use Rattle.entity_id.specs.declared.entity.Entity.{Entity}
 use Rattle.entity_id.specs.FiniteMap as entries
 use Rattle.entity_id.specs.Matching.{matches}
@@ -16,20 +18,27 @@ use Rattle.world_model.specs.Groups.{has_pool, packed_at, are_declared}
 use Rattle.world_model.specs.Ticks.{Maps, System}
 use Rattle.group_engine.specs.Grouped.{packed_of}
 use Rattle.system_api.specs.declared.lent.LentPool.{LentPool}
-use Rattle.system_api.specs.Registers.{Register, Shows, StandsFor, HasMembersFirst, MayWalkPrefix, HasOtherRows, ChangesRows, numbers, pool_of, pool_at}
+use Rattle.system_api.specs.Registers.{Register, Shows, StandsFor, HasMembersFirst, MayWalkPrefix, HasOtherRows, numbers, pool_of, pool_at}
 use Rattle.system_api.specs.Running.{AreLentFor, read_pools, sizes_of}
 use Rattle.registry.specs.Layout.{maps_of}
 use Rattle.registry.specs.Lending.{BeginsWithMembers}
 use Rattle.access_graph.specs.Conflicts.{writers, need}
-use Rattle.pool_slots.specs.Slotted.{PoolSlots, Turn, HasShapeOf, rows_of}
+use Rattle.pool_slots.specs.declared.held.PoolTag.{PoolTag}
+use Rattle.pool_slots.specs.Turns.{Turn, HasShapeOf}
+use Rattle.pool_slots.specs.Tags.{AreSlots, firsts_of, turn_of, turns_at}
 use Rattle.tick_runner.specs.Walking.{IsPrefixFor}
-use Rattle.tick_runner.proofs.ListLemmas.{declared-append, declared_left, declared_right, named-append, named_first, named_later, all_named}
+use Rattle.tick_runner.proofs.ListLemmas.{and-right, declared-append, declared_first, declared_left, declared_right, named-append, named_first, named_later, all_named}
 use Rattle.tick_runner.proofs.RunLemmas.{same_sizes}
 use Rattle.tick_runner.proofs.WalkLemmas.{lent_at, same_members, own_lent, out_lent, some_weaker}
 use Rattle.tick_runner.specs.declared.versions.fact.TickFact.{TickFact}
-use Rattle.tick_runner.specs.Sharing.{AreOfTick, IsOf, IsOfTurn, MayComeBack, nothing, tick_admits, turn_for, turns_for}
-use Rattle.tick_runner.specs.Versions.{at, maps_before, IsAt}
-use Rattle.tick_runner.proofs.VersionLemmas.{at_need, need_after, need_within, raised, keys_before, writers_few}
+use Rattle.tick_runner.specs.Plans.{AreOfTick, HasNeeds}
+use Rattle.tick_runner.specs.Turns.{found_at, turn_found, IsOf, MayComeBack}
+use Rattle.tick_runner.specs.Versions.{maps_before, tick_admits}
+use Rattle.tick_runner.proofs.VersionLemmas.{at_need, need_after, need_within, raised, writers_few}
+
+-- a pool without rows
+abbrev pub nothing : Stored Row
+nothing = record { pairs = []; spare = 0; index_bound = 0 }
 
 -- a lent pool has the rows of these maps, and the shape of the pool of its number
 pub record IsFrom (maps : Maps) (firsts : List (Stored Row)) (pool : LentPool) : Type 0 where
@@ -105,91 +114,6 @@ module _ (access : Access) (fold : Maps) (firsts : List (Stored Row)) (register 
     pub sizes_stay : sizes_of (maps_of firsts) ≡ sizes_of fold
     sizes_stay = same_sizes (maps_of firsts) fold (sym keys)
 
--- ---- by turns
-
-module _ {S : Type 0} (lists : S → Access) (effect : S → System) (frame : (s : S) → ChangesOnlyItsRows (lists s) (effect s)) (systems : List S) (tick : ℕ) (slots : PoolSlots (TickFact S)) (of : AreOfTick systems tick slots) where
-  abbrev fold_at : ℕ → Maps
-  fold_at place = maps_before effect systems tick (maps_of slots.firsts) place
-
-  -- what the fact admits is what the fold has
-  pub admitted_is : (n version : ℕ) (rows : List (Entity × Row)) → tick_admits lists effect slots.fact n version rows → IsAt lists effect systems tick (maps_of slots.firsts) n version rows
-  admitted_is n version rows is =
-      subst (λ (pools : List (Stored Row)). IsAt lists effect systems tick (maps_of pools) n version rows) of.pools_are
-      (subst (λ (t : ℕ). IsAt lists effect systems t (maps_of slots.fact.pools.value.items) n version rows) of.tick_is
-      (subst (λ (ss : List S). IsAt lists effect ss slots.fact.tick (maps_of slots.fact.pools.value.items) n version rows) of.systems_are is))
-
-  is_admitted : (n version : ℕ) (rows : List (Entity × Row)) → IsAt lists effect systems tick (maps_of slots.firsts) n version rows → tick_admits lists effect slots.fact n version rows
-  is_admitted n version rows is =
-      subst (λ (ss : List S). IsAt lists effect ss slots.fact.tick (maps_of slots.fact.pools.value.items) n version rows) (sym of.systems_are)
-      (subst (λ (t : ℕ). IsAt lists effect systems t (maps_of slots.fact.pools.value.items) n version rows) (sym of.tick_is)
-      (subst (λ (pools : List (Stored Row)). IsAt lists effect systems tick (maps_of pools) n version rows) (sym of.pools_are) is))
-
-  -- pools of turns at what the system at a place needs
-  pub from_turns : (place : ℕ) (list : List ℕ) (pools : List LentPool) → AllZip (IsOf (tick_admits lists effect)) (turns_for slots (map lists systems) place list) pools
-      → (numbers pools ≡ list) × AllByRecursion (IsFrom (fold_at place) slots.firsts) pools
-  from_turns place [] [] all = (refl, tt)
-  from_turns place [] (p ∷ pools) all = absurd all
-  from_turns place (n ∷ list) [] all = absurd all
-  from_turns place (n ∷ list) (p ∷ pools) all =
-      let rest = from_turns place list pools all.1 in
-      let is = admitted_is n (need (map lists systems) place n) (rows_of p.storage) all.0.admitted in (
-        ap₂ (λ (m : ℕ) (ms : List ℕ). m ∷ ms) all.0.number rest.0,
-        (
-          record {
-            stands = ap (slice_get (fold_at place)) all.0.number ∙ sym (at_need lists effect frame tick n systems place (maps_of slots.firsts)) ∙ is.rows_are;
-            shape = subst (λ (m : ℕ). HasShapeOf (get_or slots.firsts m nothing) p.storage) (sym all.0.number) all.0.shape;
-          },
-          rest.1,
-        ),
-      )
-
-  -- what the system leaves in the pools that it writes may be put back
-  pub may_come_back : (place : ℕ) (s : S) → slice_get systems place ≡ Some s → length systems ≤ 64 → (list : List ℕ) (ws later : List LentPool)
-      → ((n : ℕ) → has_pool list n ≡ true → has_pool (lists s).write n ≡ true)
-      → AllZip (IsOf (tick_admits lists effect)) (turns_for slots (map lists systems) place list) ws → numbers later ≡ numbers ws → ((k : ℕ) → HasOtherRows (pool_at ws k) (pool_at later k))
-      → AllByRecursion (StandsFor (effect s tick (fold_at place)).maps) later
-      → AllZip (MayComeBack (tick_admits lists effect)) (turns_for slots (map lists systems) place list) later
-  may_come_back place s is few [] [] [] named all same other stand = tt
-  may_come_back place s is few [] [] (l ∷ later) named all same other stand = absurd (cc)
-  may_come_back place s is few [] (w ∷ ws) later named all same other stand = absurd all
-  may_come_back place s is few (n ∷ list) [] later named all same other stand = absurd all
-  may_come_back place s is few (n ∷ list) (w ∷ ws) [] named all same other stand = absurd (cc)
-  may_come_back place s is few (n ∷ list) (w ∷ ws) (l ∷ later) named all same other stand =
-      let accesses = map lists systems in
-      let writes : has_pool (lists s).write n ≡ true = named n (named_first n list) in
-      let after = need_after lists effect frame tick n systems place s is writes in
-      let within = need_within lists effect frame tick n systems (suc place) in
-      let low = need_within lists effect frame tick n systems place in
-      let number : l.number ≡ n = (other 0).number ∙ all.0.number in (
-        record {
-          room = omega (arith, low, writers_few accesses n, length-map systems lists, few);
-          admitted = is_admitted n (need accesses place n + 1) (rows_of l.storage) (record {
-            within = subst (λ (v : ℕ). v ≤ writers accesses n) after within;
-            rows_are = raised lists effect tick frame systems place s (maps_of slots.firsts) n is writes ∙ ap (slice_get (effect s tick (fold_at place)).maps) (sym number) ∙ stand.0;
-          });
-          shape = record {
-            identifiers = (other 0).identifiers ∙ all.0.shape.identifiers;
-            spare = (other 0).spare ∙ all.0.shape.spare;
-            bound = (other 0).bound ∙ all.0.shape.bound;
-          };
-        },
-        may_come_back place s is few list ws later (λ m at. named m (named_later n list m at)) all.1 (ap (drop 1) same) (λ k. other (suc k)) stand.1,
-      )
-
-  -- so it is where the calls that lend them say so
-  pub lent_by : (place : ℕ) (s : S) (a : Access) → a ≡ lists s → (shown turns places : List (Option (Turn (TickFact S)))) (before register : Register) (list : List ℕ)
-      → shown ≡ turns → turns ≡ turns_for slots (map lists systems) place (read_pools a) → AllZip (IsOf (tick_admits lists effect)) shown before.reads → register.reads ≡ before.reads
-      → list ≡ a.write → places ≡ turns_for slots (map lists systems) place list → AllZip (IsOf (tick_admits lists effect)) places register.writes
-      → AreLent (lists s) (fold_at place) slots.firsts register × AllZip (IsOf (tick_admits lists effect)) (turns_for slots (map lists systems) place (lists s).write) register.writes
-  lent_by place s a found shown turns places before register list seen taken reads same named held writes =
-      let R = IsOf (tick_admits lists effect) in
-      let for_reads : shown ≡ turns_for slots (map lists systems) place (read_pools (lists s)) = seen ∙ taken ∙ ap (λ (b : Access). turns_for slots (map lists systems) place (read_pools b)) found in
-      let for_writes : places ≡ turns_for slots (map lists systems) place (lists s).write = held ∙ ap (turns_for slots (map lists systems) place) (named ∙ ap (λ (b : Access). b.write) found) in
-      let read = from_turns place (read_pools (lists s)) register.reads (subst (λ (ps : List LentPool). AllZip R (turns_for slots (map lists systems) place (read_pools (lists s))) ps) (sym same) (subst (λ (ts : List (Option (Turn (TickFact S)))). AllZip R ts before.reads) for_reads reads)) in
-      let kept = subst (λ (ts : List (Option (Turn (TickFact S)))). AllZip R ts register.writes) for_writes writes in
-      let written = from_turns place (lists s).write register.writes kept in
-      (record { lent = record { reads = read.0; writes = written.0 }; reads = read.1; writes = written.1 }, kept)
-
 -- ---- numbers of lawful lists
 
 module _ (count : ℕ) (a : Access) (lawful : IsLawfulAccess count a) where
@@ -214,6 +138,141 @@ module _ (count : ℕ) (a : Access) (lawful : IsLawfulAccess count a) where
   pub write_few : length a.write ≤ 16
   write_few = omega (arith, lawful.few, length-append ((a.read ++ a.write) ++ a.look) a.without, length-append (a.read ++ a.write) a.look, length-append a.read a.write)
 
-pub all_there : {F : Type 0} (slots : PoolSlots F) (accesses : List Access) (place : ℕ) (list : List ℕ) → AllByRecursion (λ turn. IsTrue (is_some turn)) (turns_for slots accesses place list)
-all_there slots accesses place [] = tt
-all_there slots accesses place (n ∷ list) = (refl, all_there slots accesses place list)
+-- ---- by turns
+
+-- the turn at a pool, at the version that the system at a place needs
+abbrev pub turn_for : {F : Type 0} → F → List (Stored Row) → List Access → ℕ → ℕ → Turn F
+turn_for fact firsts accesses place pool = record { fact = fact; pool = pool; version = need accesses place pool; first = get_or firsts pool nothing }
+
+-- turns at pools of these numbers
+abbrev pub turns_for : {F : Type 0} → F → List (Stored Row) → List Access → ℕ → List ℕ → List (Option (Turn F))
+turns_for fact firsts accesses place pools = map (λ pool. Some (turn_for fact firsts accesses place pool)) pools
+
+there_is : {A : Type 0} (xs : List A) (k : ℕ) → k < length xs → (x : A) × (slice_get xs k ≡ Some x)
+there_is [] k low = absurd (omega (arith, low))
+there_is (x ∷ xs) zero low = (x, refl)
+there_is (x ∷ xs) (suc k) low = there_is xs k (omega (arith, low))
+
+first_is : {F : Type 0} (tags : List (PoolTag F)) (pool : ℕ) (tag : PoolTag F) → slice_get tags pool ≡ Some tag → tag.first.value ≡ get_or (firsts_of tags) pool nothing
+first_is [] pool tag is = absurd (none-some tag is)
+first_is (x ∷ tags) zero tag is = ap (λ t. t.first.value) (sym (same_Some x tag is))
+first_is (x ∷ tags) (suc pool) tag is = first_is tags pool tag is
+
+-- the turn that slots of a fact give
+pub one_found : {F : Type 0} (fact : F) (tags : List (PoolTag F)) (accesses : List Access) (place version pool : ℕ) → AreSlots fact tags → pool < length tags → version ≡ need accesses place pool
+    → slice_get (turns_at version tags) pool ≡ Some (turn_for fact (firsts_of tags) accesses place pool)
+one_found fact tags accesses place version pool slots low needed =
+    let tag = there_is tags pool low in
+    let known = slots pool tag.0 tag.1 in
+    slice_get-map (λ t. turn_of t version) tags pool ∙ ap (option_map (λ t. turn_of t version)) tag.1
+    ∙ ap Some (λ i. record { fact = known.0 i; pool = known.1 i; version = needed i; first = first_is tags pool tag.0 tag.1 i })
+
+module _ {S : Type 0} (lists : S → Access) (effect : S → System) (frame : (s : S) → ChangesOnlyItsRows (lists s) (effect s)) (fact : TickFact S) (tags : List (PoolTag (TickFact S))) (slots : AreOfTick fact tags) (place : ℕ) where
+  abbrev systems : List S
+  systems = fact.systems.value.now
+
+  abbrev accesses : List Access
+  accesses = map lists systems
+
+  abbrev pools : List (Stored Row)
+  pools = fact.pools.value.items
+
+  -- the rows of every component before the system
+  abbrev pub fold : Maps
+  fold = maps_before effect systems fact.tick (maps_of pools) place
+
+  pub slot_count : length pools ≡ length tags
+  slot_count = ap length (sym slots.pools) ∙ length-map tags (λ (t : PoolTag _). t.first.value)
+
+  module _ (needs : List ℕ) (has : HasNeeds accesses place (length pools) needs) where
+    found_one : (pool : ℕ) → pool < length pools → turn_found tags needs pool ≡ Some (turn_for fact pools accesses place pool)
+    found_one pool low =
+        one_found fact tags accesses place (get_or needs pool 0) pool slots.slots (subst (λ (n : ℕ). pool < n) slot_count low) (has.each pool low)
+        ∙ ap (λ (firsts : List (Stored Row)). Some (turn_for fact firsts accesses place pool)) slots.pools
+
+    -- what the slots give
+    pub found_is : (list : List ℕ) → are_declared (length pools) list ≡ true → found_at tags needs list ≡ turns_for fact pools accesses place list
+    found_is [] declared = refl
+    found_is (n ∷ list) declared =
+        ap₂ (λ (o : Option (Turn _)) os. o ∷ os) (found_one n (declared_first (length pools) n list declared)) (found_is list (and-right _ (are_declared (length pools) list) declared))
+
+  -- pools of turns at what the system needs
+  pub from_turns : (list : List ℕ) (lent : List LentPool) → AllZip (IsOf (tick_admits lists effect)) (turns_for fact pools accesses place list) lent
+      → (numbers lent ≡ list) × AllByRecursion (IsFrom fold pools) lent
+  from_turns [] [] all = (refl, tt)
+  from_turns [] (p ∷ lent) all = absurd all
+  from_turns (n ∷ list) [] all = absurd all
+  from_turns (n ∷ list) (p ∷ lent) all =
+      let rest = from_turns list lent all.1 in (
+        ap₂ (λ (m : ℕ) (ms : List ℕ). m ∷ ms) all.0.number rest.0,
+        (
+          record {
+            stands = ap (slice_get fold) all.0.number ∙ sym (at_need lists effect frame fact.tick n systems place (maps_of pools)) ∙ all.0.admitted.rows_are;
+            shape = subst (λ (m : ℕ). HasShapeOf (get_or pools m nothing) p.storage) (sym all.0.number) all.0.shape;
+          },
+          rest.1,
+        ),
+      )
+
+  module _ (s : S) (is : slice_get systems place ≡ Some s) where
+    -- what the system leaves in the pools that it writes may be put back
+    pub may_come_back : length systems ≤ 64 → (list : List ℕ) (ws later : List LentPool) → ((n : ℕ) → has_pool list n ≡ true → has_pool (lists s).write n ≡ true)
+        → AllZip (IsOf (tick_admits lists effect)) (turns_for fact pools accesses place list) ws → numbers later ≡ numbers ws → ((k : ℕ) → HasOtherRows (pool_at ws k) (pool_at later k))
+        → AllByRecursion (StandsFor (effect s fact.tick fold).maps) later
+        → AllZip (MayComeBack (tick_admits lists effect)) (turns_for fact pools accesses place list) later
+    may_come_back few [] [] [] named all same other stand = tt
+    may_come_back few [] [] (l ∷ later) named all same other stand = absurd (cc)
+    may_come_back few [] (w ∷ ws) later named all same other stand = absurd all
+    may_come_back few (n ∷ list) [] later named all same other stand = absurd all
+    may_come_back few (n ∷ list) (w ∷ ws) [] named all same other stand = absurd (cc)
+    may_come_back few (n ∷ list) (w ∷ ws) (l ∷ later) named all same other stand =
+        let writes : has_pool (lists s).write n ≡ true = named n (named_first n list) in
+        let after = need_after lists effect frame fact.tick n systems place s is writes in
+        let within = need_within lists effect frame fact.tick n systems (suc place) in
+        let low = need_within lists effect frame fact.tick n systems place in
+        let number : l.number ≡ n = (other 0).number ∙ all.0.number in (
+          record {
+            room = omega (arith, low, writers_few accesses n, length-map systems lists, few);
+            admitted = record {
+              within = subst (λ (v : ℕ). v ≤ writers accesses n) after within;
+              rows_are = raised lists effect fact.tick frame systems place s (maps_of pools) n is writes ∙ ap (slice_get (effect s fact.tick fold).maps) (sym number) ∙ stand.0;
+            };
+            shape = record {
+              identifiers = (other 0).identifiers ∙ all.0.shape.identifiers;
+              spare = (other 0).spare ∙ all.0.shape.spare;
+              bound = (other 0).bound ∙ all.0.shape.bound;
+            };
+          },
+          may_come_back few list ws later (λ m at. named m (named_later n list m at)) all.1 (ap (drop 1) same) (λ k. other (suc k)) stand.1,
+        )
+
+    -- pools that were lent by what the slots gave are lent for the system
+    pub lent_by : (needs : List ℕ) → HasNeeds accesses place (length pools) needs → IsLawfulAccess (length pools) (lists s) → (a : Access) → a ≡ lists s → (register : Register)
+        → AllZip (IsOf (tick_admits lists effect)) (found_at tags needs (read_pools a)) register.reads → AllZip (IsOf (tick_admits lists effect)) (found_at tags needs a.write) register.writes
+        → AreLent (lists s) fold pools register × AllZip (IsOf (tick_admits lists effect)) (turns_for fact pools accesses place (lists s).write) register.writes
+    lent_by needs has lawful a found register reads writes =
+        let R = IsOf (tick_admits lists effect) in
+        let access = lists s in
+        let for_reads : found_at tags needs (read_pools a) ≡ turns_for fact pools accesses place (read_pools access) =
+        ap (λ (b : Access). found_at tags needs (read_pools b)) found ∙ found_is needs has (read_pools access) (read_declared (length pools) access lawful) in
+        let for_writes : found_at tags needs a.write ≡ turns_for fact pools accesses place access.write =
+        ap (λ (b : Access). found_at tags needs b.write) found ∙ found_is needs has access.write (write_declared (length pools) access lawful) in
+        let read = from_turns (read_pools access) register.reads (subst (λ ts. AllZip R ts register.reads) for_reads reads) in
+        let kept = subst (λ ts. AllZip R ts register.writes) for_writes writes in
+        let written = from_turns access.write register.writes kept in
+        (record { lent = record { reads = read.0; writes = written.0 }; reads = read.1; writes = written.1 }, kept)
+
+    -- the same, as the calls that take turns and lend their pools say it
+    pub lent_as : (needs : List ℕ) → HasNeeds accesses place (length pools) needs → IsLawfulAccess (length pools) (lists s) → (a : Access) → a ≡ lists s → (before register : Register)
+        → (shown turns places : List (Option (Turn (TickFact S)))) (for_reads for_writes once again written : List ℕ)
+        → shown ≡ turns → turns ≡ found_at tags for_reads once → for_reads ≡ needs → once ≡ again
+        → ((found : ℕ → Option (Turn (TickFact S))) → shown ≡ map found again → AllZip (IsOf (tick_admits lists effect)) (map found (read_pools a)) before.reads) → register.reads ≡ before.reads
+        → places ≡ found_at tags for_writes written → for_writes ≡ needs → written ≡ a.write → AllZip (IsOf (tick_admits lists effect)) places register.writes
+        → AreLent (lists s) fold pools register × (AllZip (IsOf (tick_admits lists effect)) (turns_for fact pools accesses place (lists s).write) register.writes × (places ≡ turns_for fact pools accesses place (lists s).write))
+    lent_as needs has lawful a found before register shown turns places for_reads for_writes once again written seen taken same_reads named reads same put same_writes list writes =
+        let R = IsOf (tick_admits lists effect) in
+        let shown_are : shown ≡ map (turn_found tags needs) again = seen ∙ taken ∙ ap₂ (found_at tags) same_reads named in
+        let places_are : places ≡ found_at tags needs a.write = put ∙ ap₂ (found_at tags) same_writes list in
+        let lent = lent_by needs has lawful a found register (subst (λ (ps : List LentPool). AllZip R (found_at tags needs (read_pools a)) ps) (sym same) (reads (turn_found tags needs) shown_are))
+        (subst (λ ts. AllZip R ts register.writes) places_are writes) in
+        (lent.0, (lent.1, places_are ∙ ap (λ (b : Access). found_at tags needs b.write) found ∙ found_is needs has (lists s).write (write_declared (length pools) (lists s) lawful)))

@@ -1,14 +1,15 @@
 pub mod CarryLemmas
 pub mod FoldLemmas
+pub mod GivingLemmas
 pub mod LentLemmas
 pub mod ListLemmas
+pub mod NamingLemmas
 pub mod NumberLemmas
 pub mod PutLemmas
 pub mod RunLemmas
-pub mod SharingLemmas
 pub mod SideLemmas
-pub mod SpawningLemmas
 pub mod TickLemmas
+pub mod TurnLemmas
 pub mod VersionLemmas
 pub mod WalkLemmas
 pub mod WorkLemmas

@@ -1,10 +1,14 @@
 -- Lists of pool numbers.
-use Rattle.std.proofs.Common.{◌≡◌, ℕ, zero, suc, ◌<◌, Bool, true, false, not, ◌&&◌, ◌||◌, eqb, List, [], ◌∷◌, ◌++◌, get_or, length, set, take, Some, slice_get, refl, sym, ap, ap₂, ◌∙◌, subst, arith, append_assoc, eq-eqb}
+use Rattle.std.proofs.Common.{◌≡◌, ◌≢◌, ℕ, zero, suc, ◌+◌, ◌<◌, Bool, true, false, not, ◌&&◌, ◌||◌, eqb, List, [], ◌∷◌, ◌++◌, get_or, length, set, take, Some, slice_get, refl, sym, ap, ap₂, ◌∙◌, subst, arith, append_assoc, eq-eqb}
 use Rattle.std.specs.Prelude.{nat_lt}
 use Rattle.std.specs.List.{AllByRecursion, AllZip}
 use Rattle.std.proofs.lemmas.Bool.{eqb-true}
 use Rattle.std.proofs.lemmas.Bool.Decides.{nat_tests}
-use Rattle.std.proofs.lemmas.Option.{none-some, same_Some}
+use Rattle.std.specs.Prelude.{slice_index}
+use Rattle.std.proofs.lemmas.List.{length-append, get_or_push, get_or_append_left}
+use Rattle.std.proofs.lemmas.Option.{none-some, same_Some, slice_get_within}
+use native.Mathlib.Decide.{ℕ_discrete}
+use mathlib.Core.Logic.{dite}
 use Rattle.world_model.specs.Groups.{has_pool, are_declared, are_distinct}
 
 pub and-left : (b c : Bool) → (b && c) ≡ true → b ≡ true
@@ -15,7 +19,7 @@ pub and-right : (b c : Bool) → (b && c) ≡ true → c ≡ true
 and-right true c e = e
 and-right false c e = absurd (cc)
 
-or-left : (b c : Bool) → (b || c) ≡ false → b ≡ false
+pub or-left : (b c : Bool) → (b || c) ≡ false → b ≡ false
 or-left true c e = e
 or-left false c e = refl
 
@@ -27,7 +31,7 @@ or-true : (b c : Bool) → c ≡ true → (b || c) ≡ true
 or-true true c e = refl
 or-true false c e = e
 
-or-assoc : (a b c : Bool) → (a || b) || c ≡ a || (b || c)
+pub or-assoc : (a b c : Bool) → (a || b) || c ≡ a || (b || c)
 or-assoc true b c = refl
 or-assoc false b c = refl
 
@@ -39,7 +43,7 @@ pub not_true : (b : Bool) → (b ≡ true → ⊥) → b ≡ false
 not_true true never = absurd (never refl)
 not_true false never = refl
 
-not-false : (b : Bool) → not b ≡ true → b ≡ false
+pub not-false : (b : Bool) → not b ≡ true → b ≡ false
 not-false true e = absurd (cc)
 not-false false e = refl
 
@@ -147,3 +151,32 @@ pub take_set : {X : Type 0} (xs : List X) (k : ℕ) (x : X) → k < length xs �
 take_set [] k x low = absurd (omega arith)
 take_set (y ∷ xs) zero x low = refl
 take_set (y ∷ xs) (suc k) x low = ap (λ rest. y ∷ rest) (take_set xs k x (omega arith))
+
+-- ---- an item more
+
+pub push_last : {A : Type 0} (xs : List A) (x : A) (k : ℕ) → length xs ≡ k → slice_get (xs ++ x ∷ []) k ≡ Some x
+push_last [] x zero long = refl
+push_last [] x (suc k) long = absurd (omega (arith, long))
+push_last (y ∷ xs) x zero long = absurd (omega (arith, long))
+push_last (y ∷ xs) x (suc k) long = push_last xs x k (omega (arith, long))
+
+pub push_before : {A : Type 0} (xs : List A) (x : A) (k : ℕ) → k < length xs → slice_get (xs ++ x ∷ []) k ≡ slice_get xs k
+push_before [] x k low = absurd (omega (arith, low))
+push_before (y ∷ xs) x zero low = refl
+push_before (y ∷ xs) x (suc k) low = push_before xs x k (omega (arith, low))
+
+below : (i k : ℕ) → i < k + 1 → i ≢ k → i < k
+below i k low other = omega arith
+
+-- what holds of each item holds of each after one more of which it holds
+pub pushed_at : {A : Type 0} (P : ℕ → A → Type 0) (xs : List A) (y : A) (k : ℕ) → length xs ≡ k → ((i : ℕ) (x : A) → slice_get xs i ≡ Some x → P i x) → P k y
+    → (i : ℕ) (x : A) → slice_get (xs ++ y ∷ []) i ≡ Some x → P i x
+pushed_at {A = A} P xs y k long each last i x is = dite (ℕ_discrete i k)
+    (λ e. subst (λ (n : ℕ). P n x) (sym e) (subst (λ (z : A). P k z) (same_Some y x (sym (push_last xs y k long) ∙ ap (slice_get (xs ++ y ∷ [])) (sym e) ∙ is)) last))
+    (λ ne. each i x (sym (push_before xs y i (subst (λ (n : ℕ). i < n) (sym long) (below i k (subst (λ (n : ℕ). i < n) (length-append xs (y ∷ []) ∙ ap (λ n. n + 1) long) (slice_get_within (xs ++ y ∷ []) i x is)) ne))) ∙ is))
+
+-- the same of numbers by their places
+pub pushed_each : (P : ℕ → ℕ → Type 0) (xs : List ℕ) (y k : ℕ) → length xs ≡ k → ((i : ℕ) → i < k → P i (slice_index xs i)) → P k y → (i : ℕ) → i < k + 1 → P i (slice_index (xs ++ y ∷ []) i)
+pushed_each P xs y k long each last i low = dite (ℕ_discrete i k)
+    (λ e. subst (λ (n : ℕ). P n (slice_index (xs ++ y ∷ []) n)) (sym e) (subst (λ (z : ℕ). P k z) (sym (get_or_push xs y 0 k long)) last))
+    (λ ne. let lower = below i k low ne in subst (λ (z : ℕ). P i z) (sym (get_or_append_left xs (y ∷ []) 0 i (subst (λ (n : ℕ). i < n) (sym long) lower))) (each i lower))

@@ -1,38 +1,35 @@
 -- Workers side by side, and what they leave.
-use Rattle.std.proofs.Common.{◌≡◌, ℕ, zero, suc, ◌+◌, ◌-◌, ◌^◌, ◌<◌, ◌≤◌, List, [], ◌∷◌, ◌++◌, drop, take, map, Option, Some, None, length, get_or, sym, refl, ap, ◌∙◌, subst, arith, true, false, slice_get}
+use Rattle.std.proofs.Common.{◌≡◌, ℕ, ◌+◌, ◌<◌, ◌≤◌, List, [], ◌∷◌, ◌++◌, drop, take, map, Option, Some, None, length, get_or, sym, refl, ap, ◌∙◌, subst, arith, slice_get}
 use Rattle.std.specs.List.{All}
 use Rattle.std.specs.Option.{option_map}
 use Rattle.std.proofs.lemmas.List.{length-append, length-map}
 use Rattle.std.proofs.lemmas.List.Elements.{All-push}
-use Rattle.std.proofs.lemmas.Option.{slice_get-get_or, slice_get-map, slice_get_past, slice_get_within, same_Some, none-some}
+use Rattle.std.proofs.lemmas.Option.{slice_get-get_or, slice_get-map, slice_get_past, slice_get_within, same_Some}
 use Rattle.entity_id.specs.FiniteMap as entries
 use Rattle.entity_id.proofs.ListLemmas.{equal_by_place, past_end}
 use Rattle.storage.specs.Stored.{Stored}
 use Rattle.world_model.specs.declared.access.Access.{Access}
 use Rattle.world_model.specs.declared.component.Row.{Row}
-use Rattle.world_model.specs.declared.deferred.Deferred.{Deferred}
 use Rattle.world_model.specs.Frames.{ChangesOnlyItsRows}
 use Rattle.world_model.specs.Ticks.{Maps, System, maps_after_systems, orders_of}
 use Rattle.system_api.specs.Emissions.{Emissions}
 use Rattle.system_api.specs.Running.{sizes_of}
 use Rattle.registry.specs.Layout.{maps_of}
 use Rattle.registry.specs.Lending.{shape_of, shapes_of}
-use Rattle.access_graph.specs.Conflicts.{need, writers}
 use Rattle.pool_slots.specs.declared.held.PoolTag.{PoolTag}
-use Rattle.pool_slots.specs.Slotted.{HasShapeOf, Turn, rows_of}
-use Rattle.pool_slots.specs.Tagged.{AreSlots, firsts_of, slots_of, turns_at}
-use Rattle.pool_slots.proofs.TagLemmas.{push_last, push_before}
-use Rattle.ready_board.specs.Sets.{IsWithin}
+use Rattle.pool_slots.specs.Turns.{HasShapeOf, Turn, rows_of}
+use Rattle.pool_slots.specs.Tags.{firsts_of, turns_at}
 use Rattle.ready_board.specs.declared.board.Board.{Board}
 use Rattle.tick_runner.specs.Running.{orders_in}
 use Rattle.tick_runner.specs.declared.versions.fact.TickFact.{TickFact}
 use Rattle.tick_runner.specs.declared.worker.Worker.{Worker}
-use Rattle.tick_runner.specs.Sharing.{AreOfTick, nothing, tick_admits, turn_for}
-use Rattle.tick_runner.specs.Versions.{at, maps_before, IsAt}
-use Rattle.tick_runner.specs.Working.{AreWorkers, HasWorked, HaveWorked, IsAtWork, IsOther}
-use Rattle.tick_runner.proofs.LentLemmas.{admitted_is}
-use Rattle.tick_runner.proofs.SharingLemmas.{one_found}
-use Rattle.tick_runner.proofs.VersionLemmas.{at-none, at_need, at_last, keys_before, need_all, orders_count}
+use Rattle.tick_runner.specs.Plans.{AreOfTick, HasNeeds}
+use Rattle.tick_runner.specs.Versions.{at, tick_admits, IsAt}
+use Rattle.tick_runner.specs.Working.{AreLed, HasWorked, HaveWorked, IsAtWork, IsIdle}
+use Rattle.tick_runner.proofs.LentLemmas.{nothing, turn_for, one_found}
+use Rattle.tick_runner.proofs.ListLemmas.{push_last, push_before}
+use Rattle.tick_runner.proofs.WorkLemmas.{idle_works}
+use Rattle.tick_runner.proofs.VersionLemmas.{at-none, at_last, need_all, orders_count}
 
 pub split_last : {A : Type 0} (xs : List A) → 0 < length xs → (init : List A) × (last : A) × (xs ≡ init ++ last ∷ [])
 split_last [] h = absurd (omega (arith, h))
@@ -57,42 +54,47 @@ snoc_same (a ∷ xs) (b ∷ ys) x y e =
     let head : a ≡ b = same_Some a b (ap (λ zs. slice_get zs 0) e) in
     ((λ i. head i ∷ rest.0 i), rest.1)
 
-module _ (ready right : ℕ → Emissions → Type 0) (count : ℕ) (board : Board) where
-  -- all of them are at work
-  pub all_at_work : (workers : List Worker) → AreWorkers ready right count board workers → All (IsAtWork ready right count board) workers
-  all_at_work workers are = subst (λ ws. All (IsAtWork ready right count board) ws) (sym are.all)
-      (All-push (IsAtWork ready right count board) are.others are.first (λ k d h. (are.others_are k d h).at_work) are.first_at_work)
+all_so : {A : Type 0} (P Q : A → Type 0) (xs : List A) → ((x : A) → P x → Q x) → All P xs → All Q xs
+all_so P Q xs so all = λ k d low. so (get_or xs k d) (all k d low)
 
-  pub have_worked : (olds news : List Worker) → AreWorkers ready right count board olds → length news ≡ length olds
-      → ((k : ℕ) (before after : Worker) → slice_get olds k ≡ Some before → slice_get news k ≡ Some after → HasWorked ready right count board before after)
-      → HaveWorked ready right count board news
-  have_worked olds news are long worked =
-      let count_olds : length olds ≡ length are.others + 1 = ap length are.all ∙ length-append are.others (are.first ∷ []) in
-      let some : 0 < length news = omega (arith, long, count_olds) in
-      let parts = split_last news some in
-      let count_news : length news ≡ length parts.0 + 1 = ap length parts.2 ∙ length-append parts.0 (parts.1 ∷ []) in
-      let same : length parts.0 ≡ length are.others = omega (arith, long, count_olds, count_news) in
-      let last = worked (length are.others) are.first parts.1
-      (ap (λ ws. slice_get ws (length are.others)) are.all ∙ push_last are.others are.first (length are.others) refl)
-      (ap (λ ws. slice_get ws (length are.others)) parts.2 ∙ push_last parts.0 parts.1 (length are.others) same) in
-      let other : (k : ℕ) (d : Worker) → k < length parts.0 → IsOther ready right count board (get_or parts.0 k d) = λ k d h.
-      let low : k < length are.others = subst (λ n. k < n) same h in
-      let w = worked k (get_or are.others k d) (get_or parts.0 k d)
-      (ap (λ ws. slice_get ws k) are.all ∙ push_before are.others are.first k low ∙ slice_get-get_or are.others k d low)
-      (ap (λ ws. slice_get ws k) parts.2 ∙ push_before parts.0 parts.1 k h ∙ slice_get-get_or parts.0 k d h) in
-      record { at_work = w.at_work; not_first = w.role.is_first ∙ (are.others_are k d low).not_first } in
-      record {
-        are_workers = record {
-          others = parts.0;
-          first = parts.1;
-          all = parts.2;
-          others_are = other;
-          first_at_work = last.at_work;
-          first_is = last.role.is_first ∙ are.first_is;
-          out = last.role.out ∙ are.out ∙ sym same;
-        };
-        seen = last.all;
-      }
+pub led_all : (Is : Worker → Type 0) (workers : List Worker) → AreLed Is workers → All Is workers
+led_all Is workers led = subst (λ ws. All Is ws) (sym led.all) (All-push Is led.others led.first led.others_are led.first_is)
+
+-- workers that have claimed nothing are all at work
+pub all_at_work : (IsRight : ℕ → Emissions → Type 0) (count : ℕ) (board : Board) (workers : List Worker) → AreLed (IsIdle count board) workers → All (IsAtWork IsRight count board) workers
+all_at_work IsRight count board workers led = all_so (IsIdle count board) (IsAtWork IsRight count board) workers (idle_works IsRight count board) (led_all (IsIdle count board) workers led)
+
+-- workers that have all worked are led as before
+pub have_worked : (IsRight : ℕ → Emissions → Type 0) (count : ℕ) (board : Board) (Is : Worker → Type 0) (olds news : List Worker) → AreLed Is olds → length news ≡ length olds
+    → ((k : ℕ) (before after : Worker) → slice_get olds k ≡ Some before → slice_get news k ≡ Some after → HasWorked IsRight count board before after)
+    → HaveWorked IsRight count board news
+have_worked IsRight count board Is olds news led long worked =
+    let count_olds : length olds ≡ length led.others + 1 = ap length led.all ∙ length-append led.others (led.first ∷ []) in
+    let some : 0 < length news = omega (arith, long, count_olds) in
+    let parts = split_last news some in
+    let count_news : length news ≡ length parts.0 + 1 = ap length parts.2 ∙ length-append parts.0 (parts.1 ∷ []) in
+    let same : length parts.0 ≡ length led.others = omega (arith, long, count_olds, count_news) in
+    let last = worked (length led.others) led.first parts.1
+    (ap (λ ws. slice_get ws (length led.others)) led.all ∙ push_last led.others led.first (length led.others) refl)
+    (ap (λ ws. slice_get ws (length led.others)) parts.2 ∙ push_last parts.0 parts.1 (length led.others) same) in
+    let other : (k : ℕ) (d : Worker) → k < length parts.0 → HasWorked IsRight count board (get_or led.others k d) (get_or parts.0 k d) = λ k d h.
+    let low : k < length led.others = subst (λ n. k < n) same h in
+    worked k (get_or led.others k d) (get_or parts.0 k d)
+    (ap (λ ws. slice_get ws k) led.all ∙ push_before led.others led.first k low ∙ slice_get-get_or led.others k d low)
+    (ap (λ ws. slice_get ws k) parts.2 ∙ push_before parts.0 parts.1 k h ∙ slice_get-get_or parts.0 k d h) in
+    record {
+      led = record {
+        others = parts.0;
+        first = parts.1;
+        all = parts.2;
+        others_are = λ k d h. (other k d h).at_work;
+        others_later = λ k d h. (other k d h).role.is_first ∙ led.others_later k d (subst (λ n. k < n) same h);
+        first_is = last.at_work;
+        leads = last.role.is_first ∙ led.leads;
+        out = last.role.out ∙ led.out ∙ sym same;
+      };
+      seen = last.all;
+    }
 
 -- ---- orders and rows in the end
 
@@ -120,13 +122,18 @@ admitted_first lists effect frame systems tick pools pool stored is = record {
   rows_are = at-none lists effect frame tick pool systems (maps_of pools) ∙ map_at pools pool ∙ ap (option_map (λ (s : Stored Row). entries.map_of s.pairs)) is;
 }
 
-module _ {S : Type 0} (lists : S → Access) (effect : S → System) (frame : (s : S) → ChangesOnlyItsRows (lists s) (effect s)) (systems : List S) (tick : ℕ) (fact : TickFact S) (tags : List (PoolTag (TickFact S)))
-    (slots : AreSlots fact tags) (of : AreOfTick systems tick (slots_of fact tags)) (lasts : List ℕ) (news : List (Stored Row)) (each : length news ≡ length tags)
-    (last : (pool : ℕ) → pool < length tags → get_or lasts pool 0 ≡ need (map lists systems) (length systems) pool)
+module _ {S : Type 0} (lists : S → Access) (effect : S → System) (frame : (s : S) → ChangesOnlyItsRows (lists s) (effect s)) (fact : TickFact S) (tags : List (PoolTag (TickFact S))) (slots : AreOfTick fact tags) (lasts : List ℕ)
+    (has : HasNeeds (map lists fact.systems.value.now) (length fact.systems.value.now) (length tags) lasts) (news : List (Stored Row)) (each : length news ≡ length tags)
     (back : (pool : ℕ) (turn : Turn (TickFact S)) (stored : Stored Row) → slice_get (turns_at (get_or lasts pool 0) tags) pool ≡ Some turn → slice_get news pool ≡ Some stored
     → tick_admits lists effect turn.fact turn.pool turn.version (rows_of stored) × HasShapeOf turn.first stored) where
+  abbrev systems : List S
+  systems = fact.systems.value.now
+
+  abbrev tick : ℕ
+  tick = fact.tick
+
   abbrev firsts : List (Stored Row)
-  firsts = firsts_of tags
+  firsts = fact.pools.value.items
 
   abbrev fold : Maps
   fold = maps_after_systems (map effect systems) tick (maps_of firsts)
@@ -134,10 +141,11 @@ module _ {S : Type 0} (lists : S → Access) (effect : S → System) (frame : (s
   turned : (pool : ℕ) (stored : Stored Row) → slice_get news pool ≡ Some stored → (slice_get fold pool ≡ Some (rows_of stored)) × HasShapeOf (get_or firsts pool nothing) stored
   turned pool stored is =
       let low : pool < length tags = subst (λ n. pool < n) each (slice_get_within news pool stored is) in
-      let found = one_found fact tags (map lists systems) (length systems) pool slots low in
-      let got = back pool (turn_for (slots_of fact tags) (map lists systems) (length systems) pool) stored (ap (λ (v : ℕ). slice_get (turns_at v tags) pool) (last pool low) ∙ found) is in
-      let known = admitted_is lists effect frame systems tick (slots_of fact tags) of pool (need (map lists systems) (length systems) pool) (rows_of stored) got.0 in
-      (sym (at_last lists effect frame tick pool systems (maps_of firsts)) ∙ ap (at lists effect systems tick (maps_of firsts) pool) (sym (need_all lists effect frame tick pool systems)) ∙ known.rows_are, got.1)
+      let found = one_found fact tags (map lists systems) (length systems) (get_or lasts pool 0) pool slots.slots low (has.each pool low) in
+      let got = back pool (turn_for fact (firsts_of tags) (map lists systems) (length systems) pool) stored found is in (
+        sym (at_last lists effect frame tick pool systems (maps_of firsts)) ∙ ap (at lists effect systems tick (maps_of firsts) pool) (sym (need_all lists effect frame tick pool systems)) ∙ got.0.rows_are,
+        subst (λ (list : List (Stored Row)). HasShapeOf (get_or list pool nothing) stored) slots.pools got.1,
+      )
 
   fold_count : length fold ≡ length firsts
   fold_count =
@@ -151,7 +159,7 @@ module _ {S : Type 0} (lists : S → Access) (effect : S → System) (frame : (s
           all_keys (s ∷ systems) maps = all_keys systems (effect s tick maps).maps ∙ (frame s).identifiers tick maps
 
   firsts_count : length firsts ≡ length news
-  firsts_count = length-map tags (λ t. t.first.value) ∙ sym each
+  firsts_count = ap length (sym slots.pools) ∙ length-map tags (λ t. t.first.value) ∙ sym each
 
   pub rows_back : maps_of news ≡ fold
   rows_back = equal_by_place _ _ (λ k. by k (slice_get news k) refl)

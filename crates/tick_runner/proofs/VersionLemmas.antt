@@ -1,7 +1,6 @@
 -- Pools at versions.
-use Rattle.std.proofs.Common.{◌≡◌, ℕ, zero, suc, ◌+◌, ◌<◌, ◌≤◌, Bool, true, false, cond, List, [], ◌∷◌, ◌++◌, map, length, take, Option, Some, None, slice_get, refl, sym, ap, ap₂, ◌∙◌, subst, arith, zero-add, take_all, le_refl}
+use Rattle.std.proofs.Common.{◌≡◌, ℕ, zero, suc, ◌+◌, ◌≤◌, Bool, true, false, cond, List, [], ◌∷◌, ◌++◌, map, length, take, Some, slice_get, refl, sym, ap, ◌∙◌, arith, zero-add, take_all, le_refl}
 use Rattle.std.proofs.lemmas.List.Sums.{sum_by-cons, sum_by_push}
-use Rattle.std.specs.List.{sum_by}
 use Rattle.std.proofs.lemmas.Option.{same_Some, none-some}
 use Rattle.entity_id.specs.FiniteMap as entries
 use Rattle.world_model.specs.declared.access.Access.{Access}
@@ -9,7 +8,7 @@ use Rattle.world_model.specs.Frames.{ChangesOnlyItsRows, DependsOnItsLists, syst
 use Rattle.world_model.specs.Groups.{has_pool}
 use Rattle.world_model.specs.Ticks.{Maps, System, maps_after_systems, orders_of}
 use Rattle.access_graph.specs.Conflicts.{writers, need}
-use Rattle.tick_runner.specs.Versions.{at, maps_before, IsAt}
+use Rattle.tick_runner.specs.Versions.{at, maps_before}
 
 abbrev pub one_if : Bool → ℕ
 one_if b = cond b 1 0

@@ -1,8 +1,9 @@
+pub mod Giving
+pub mod Plans
 pub mod Putting
 pub mod Running
-pub mod Sharing
-pub mod Spawning
 pub mod Ticking
+pub mod Turns
 pub mod Versions
 pub mod Walking
 pub mod Working

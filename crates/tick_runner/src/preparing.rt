@@ -38,7 +38,11 @@ pub fn sizes(alloc: Global, pools: &[Storage<Row>]) -> Result<Vec<u32>, OutOfMem
 }
 
 // A buffer with room for as many orders as a system gives at most.
-fn buffer_for<S: System>(alloc: Global, system: &S, sizes: &[u32]) -> Result<Buffer, OutOfMemory>
+pub fn buffer_for<S: System>(
+    alloc: Global,
+    system: &S,
+    sizes: &[u32],
+) -> Result<Buffer, OutOfMemory>
     requires { IsTrue (are_declared (length sizes.now) (system_pools (S.lists system.now))) }
     ensures { IfOk result (λ buffer. IsReady (S.limit system.now sizes.now) buffer) }
 {
@@ -69,7 +73,7 @@ pub fn buffers_for<S: System>(
 }
 
 // For each system the prefix along which it may walk, if one is known.
-pub fn prefixes_for<S: System, L: Listener>(
+fn prefixes_for<S: System, L: Listener>(
     alloc: Global,
     systems: &[S],
     shell: &Shell<L>,

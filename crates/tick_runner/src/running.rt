@@ -53,7 +53,7 @@ fn run_one<S: System>(
 }
 
 // The prefix at a place, if one is known.
-pub fn prefix_at(prefixes: &[Option<(u32, u32)>], place: usize) -> Option<(u32, u32)>
+fn prefix_at(prefixes: &[Option<(u32, u32)>], place: usize) -> Option<(u32, u32)>
     ensures { result ≡ slice_index_or prefixes.now place None }
 {
     match prefixes.get(place) {

@@ -7,15 +7,14 @@ ghost use Rattle.tick_runner.specs.Ticking.{Ticks};
 
 use crate::applying::apply_all;
 use crate::gate::Gate;
-use crate::preparing::{prefixes_for, sizes};
-use crate::together::{lasts_of, make_workers, run_prepared};
+use crate::plan::make_plan;
+use crate::together::{make_workers, run_prepared};
 use crate::versions::{TickFact, systems_keep_frames};
 use entity_id::OutOfMemory;
 use pool_slots::SlotsRoom;
 use registry::{Registry, registries_change_in_parts, worlds_with_other_rows_are_lawful};
 use signal_sink::Listener;
 use std::alloc::Global;
-use std::snapshot::Snapshot;
 use std::sync::Wait;
 use std::thread::Threads;
 use system_api::System;
@@ -45,15 +44,10 @@ pub fn tick_shared<R: Threads + Wait + Sync, S: System + Sync, L: Listener, T: G
     registries_change_in_parts();
     systems_keep_frames(systems);
     let (mut pools, shell) = registry.lend();
-    let prefixes = prefixes_for(alloc, systems, &shell, &pools)?;
-    let sizes = sizes(alloc, &pools)?;
-    let before = Snapshot::of(&pools);
-    let (board, all) = make_workers(alloc, systems, tick, &before, &sizes, workers as usize)?;
-    let lasts = lasts_of(alloc, systems, pools.len())?;
+    let (plan, seat) = make_plan(alloc, systems, &shell, &pools)?;
+    let all = make_workers(alloc, systems.len(), &plan.board, seat, workers)?;
     let room: SlotsRoom<TickFact<'_, S>> = SlotsRoom::new(alloc, pools.len())?;
-    let buffers = run_prepared(
-        rt, alloc, systems, &mut pools, &prefixes, tick, gate, board, all, room, &lasts,
-    );
+    let buffers = run_prepared(rt, systems, tick, plan, all, room, gate, &mut pools);
     let mut after = shell.restore(pools);
     apply_all(alloc, &mut after, &buffers)?;
     Ok(after)

@@ -2,8 +2,6 @@
 
 mod fact;
 mod laws;
-mod needs;
 
 pub use fact::TickFact;
 pub use laws::{systems_keep_frames, systems_raise_versions};
-pub use needs::writers_before;

@@ -1,23 +1,26 @@
 //! One worker.
 
-ghost use Rattle.std.specs.Prelude.{◌≡◌, ◌-◌, ◌^◌, length, IsTrue};
-ghost use Rattle.ready_board.specs.Sets.{IsWithin};
-ghost use Rattle.pool_slots.specs.Tagged.{slots_of, AreSlots};
-ghost use Rattle.tick_runner.specs.Working.{CanTick, IsAtWork, KeepsRole, ReadyFor, RightFor};
+ghost use Rattle.std.specs.Prelude.{◌≡◌, length};
+ghost use Rattle.ready_board.specs.Seats.{view_of};
+ghost use Rattle.ready_board.specs.Sets.{IsWithin, first_systems};
+ghost use Rattle.tick_runner.specs.Plans.{IsShared};
+ghost use Rattle.tick_runner.specs.Versions.{IsRightAt};
+ghost use Rattle.tick_runner.specs.Working.{IsAtWork, KeepsRole};
 
 mod running;
 
 use crate::gate::Gate;
+use crate::plan::Plan;
 use crate::versions::TickFact;
 use crossbeam_utils::Backoff;
 use pool_slots::Slots;
-use ready_board::board::{Board, BoardSeat, Claim};
+use ready_board::{BoardSeat, Claim};
 use running::run_claimed;
-use std::alloc::Global;
 use std::sync::Wait;
 use system_api::{Buffer, LentPool, System};
 
-/// A worker with its seat, a buffer for each system, and which systems it has run.
+/// A worker: its seat, the buffers of the systems that it has run, which these are, and a list in which
+/// pools are lent. In the place of another system's buffer stands one that takes no memory.
 #[derive(Drop)]
 pub struct Worker {
     pub seat: BoardSeat,
@@ -36,43 +39,41 @@ enum Step {
 // Claims a system and runs it, where one is ready.
 fn take_one<'a, 'b, R: Wait, S: System, T: Gate>(
     rt: &R,
-    alloc: Global,
-    board: &Board,
     slots: &Slots<TickFact<'a, S>>,
     fact: &TickFact<'b, S>,
     systems: &[S],
-    prefixes: &[Option<(u32, u32)>],
-    tick: u64,
+    plan: &Plan,
     gate: &T,
     worker: &mut Worker,
 ) -> Step
-    requires slots { AreSlots fact.now slots.now.slots.items }
-    requires can { CanTick S.lists systems.now prefixes.now tick (slots_of fact.now slots.now.slots.items) board.now }
-    requires before { IsAtWork (ReadyFor S.limit systems.now (slots_of fact.now slots.now.slots.items).firsts) (RightFor S.effect systems.now tick (slots_of fact.now slots.now.slots.items).firsts)
-        (length systems.now) board.now worker.old }
-    ensures after { IsAtWork (ReadyFor S.limit systems.now (slots_of fact.now slots.now.slots.items).firsts) (RightFor S.effect systems.now tick (slots_of fact.now slots.now.slots.items).firsts)
-        (length systems.now) board.now worker.new }
-    ensures role { KeepsRole worker.old.seat.me.0 worker.new.seat.me.0 }
-    ensures all { result ≡ Step.Ended → IsWithin (2 ^ length systems.now - 1) worker.new.seat.me.0.seen_claimed }
+    requires shared { IsShared S.lists S.limit systems.now fact.now slots.now plan.now }
+    requires before { IsAtWork (IsRightAt S.effect fact.now) (length systems.now)
+        plan.now.board worker.old }
+    ensures after { IsAtWork (IsRightAt S.effect fact.now) (length systems.now)
+        plan.now.board worker.new }
+    ensures role { KeepsRole (view_of worker.old.seat) (view_of worker.new.seat) }
+    ensures all { result ≡ Step.Ended →
+        IsWithin (first_systems (length systems.now)) (view_of worker.new.seat).seen_claimed }
 {
-    match board.claim(&mut worker.seat) {
+    match plan.board.claim(&mut worker.seat) {
         Claim::Got(system) => {
             let place = system as usize;
+            let part = &plan.parts[place];
+            let mut out = part.buffer.take(rt);
             run_claimed(
                 rt,
-                alloc,
                 slots,
                 fact,
-                systems,
-                place,
-                prefixes,
-                tick,
+                system,
+                &systems[place],
+                part,
                 gate,
                 &mut worker.room,
-                &mut worker.buffers[place],
+                &mut out,
             );
+            worker.buffers[place] = out;
             worker.has_run[place] = true;
-            board.done(&mut worker.seat, system);
+            plan.board.done(&mut worker.seat, system);
             Step::Ran
         }
         Claim::NotYet => Step::Idle,
@@ -80,33 +81,28 @@ fn take_one<'a, 'b, R: Wait, S: System, T: Gate>(
     }
 }
 
-/// Runs systems that are ready until all are claimed; while none is, it spins, and after some rounds yields.
+/// Runs systems that are ready until all are claimed; while none is ready it spins, and after some rounds
+/// it yields the processor.
 pub fn work<'a, 'b, R: Wait, S: System, T: Gate>(
     rt: &R,
-    alloc: Global,
-    board: &Board,
     slots: &Slots<TickFact<'a, S>>,
     fact: &TickFact<'b, S>,
     systems: &[S],
-    prefixes: &[Option<(u32, u32)>],
-    tick: u64,
+    plan: &Plan,
     gate: &T,
     worker: &mut Worker,
 )
-    requires slots { AreSlots fact.now slots.now.slots.items }
-    requires can { CanTick S.lists systems.now prefixes.now tick (slots_of fact.now slots.now.slots.items) board.now }
-    requires before { IsAtWork (ReadyFor S.limit systems.now (slots_of fact.now slots.now.slots.items).firsts) (RightFor S.effect systems.now tick (slots_of fact.now slots.now.slots.items).firsts)
-        (length systems.now) board.now worker.old }
-    ensures after { IsAtWork (ReadyFor S.limit systems.now (slots_of fact.now slots.now.slots.items).firsts) (RightFor S.effect systems.now tick (slots_of fact.now slots.now.slots.items).firsts)
-        (length systems.now) board.now worker.new }
-    ensures role { KeepsRole worker.old.seat.me.0 worker.new.seat.me.0 }
-    ensures all { IsWithin (2 ^ length systems.now - 1) worker.new.seat.me.0.seen_claimed }
+    requires shared { IsShared S.lists S.limit systems.now fact.now slots.now plan.now }
+    requires before { IsAtWork (IsRightAt S.effect fact.now) (length systems.now)
+        plan.now.board worker.old }
+    ensures after { IsAtWork (IsRightAt S.effect fact.now) (length systems.now)
+        plan.now.board worker.new }
+    ensures role { KeepsRole (view_of worker.old.seat) (view_of worker.new.seat) }
+    ensures all { IsWithin (first_systems (length systems.now)) (view_of worker.new.seat).seen_claimed }
 {
     let mut backoff = Backoff::new();
     'turns: for _ in rt.forever() {
-        match take_one(
-            rt, alloc, board, slots, fact, systems, prefixes, tick, gate, worker,
-        ) {
+        match take_one(rt, slots, fact, systems, plan, gate, worker) {
             Step::Ran => backoff = Backoff::new(),
             Step::Idle => backoff.snooze(),
             Step::Ended => return,

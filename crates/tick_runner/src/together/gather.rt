@@ -1,18 +1,18 @@
 //! The buffers of all workers in one list.
 
-ghost use Rattle.std.specs.Prelude.{◌≡◌, ◌≢◌, ℕ, ◌<◌, ◌-◌, ◌^◌, length, map, true, false, slice_get, Some, vec_len};
+ghost use Rattle.std.specs.Prelude.{◌≡◌, ◌≢◌, ℕ, ◌<◌, ◌-◌, length, true, false, slice_get, Some};
 ghost use Rattle.std.specs.List.{All};
 ghost use Rattle.system_api.specs.Emissions.{Emissions};
-ghost use Rattle.ready_board.specs.Sets.{IsWithin};
-ghost use Rattle.tick_runner.specs.Working.{IsAtWork, IsOther, ReadyFor, RightFor};
+ghost use Rattle.ready_board.specs.Seats.{preds_in, view_of};
+ghost use Rattle.ready_board.specs.Sets.{IsWithin, first_systems};
+ghost use Rattle.tick_runner.specs.Versions.{IsRightAt};
+ghost use Rattle.tick_runner.specs.Working.{IsAtWork, IsLater};
 
+use crate::versions::TickFact;
 use crate::worker::Worker;
-use ready_board::board::Board;
+use ready_board::Board;
 use std::mem;
-use std::snapshot::Snapshot;
-use storage::Storage;
 use system_api::{Buffer, System};
-use world_model::Row;
 
 // Takes in the buffer of one system, where the other worker has run it.
 fn take_in_one(
@@ -31,7 +31,7 @@ fn take_in_one(
     ensures others { length others.new.items ≡ length others.old.items }
     ensures taken { slice_get theirs.now.items i ≡ Some true →
         (slice_get has_run.new.items i ≡ Some true) × (slice_get buffers.new.items i ≡ slice_get others.old.items i) }
-    ensures kept { slice_get theirs.now.items i ≡ Some false →
+    ensures unchanged { slice_get theirs.now.items i ≡ Some false →
         (slice_get has_run.new.items i ≡ slice_get has_run.old.items i) × (slice_get buffers.new.items i ≡ slice_get buffers.old.items i) }
     ensures rest { (j : ℕ) → j ≢ i → (slice_get has_run.new.items j ≡ slice_get has_run.old.items j)
         × (slice_get buffers.new.items j ≡ slice_get buffers.old.items j) × (slice_get others.new.items j ≡ slice_get others.old.items j) }
@@ -56,7 +56,7 @@ fn take_in(
     ensures places { length buffers.new.items ≡ length buffers.old.items }
     ensures taken { (i : ℕ) → slice_get theirs.now.items i ≡ Some true →
         (slice_get has_run.new.items i ≡ Some true) × (slice_get buffers.new.items i ≡ slice_get others.old.items i) }
-    ensures kept { (i : ℕ) → slice_get theirs.now.items i ≡ Some false →
+    ensures unchanged { (i : ℕ) → slice_get theirs.now.items i ≡ Some false →
         (slice_get has_run.new.items i ≡ slice_get has_run.old.items i) × (slice_get buffers.new.items i ≡ slice_get buffers.old.items i) }
 {
     for i in 0..theirs.len() {
@@ -65,28 +65,24 @@ fn take_in(
 }
 
 // Takes in another worker.
-fn gather<S: System>(
+fn gather<'b, S: System>(
     board: &Board,
     systems: &[S],
-    tick: u64,
-    pools: &Snapshot<Vec<Storage<Row>>>,
+    fact: &TickFact<'b, S>,
     first: &mut Worker,
     other: Worker,
 )
-    requires ready { IsAtWork (ReadyFor S.limit systems.now pools.now.value.items) (RightFor S.effect systems.now tick pools.now.value.items)
-        (length systems.now) board.now first.old }
-    requires first { first.old.seat.me.0.is_first ≡ true }
-    requires other { IsOther (ReadyFor S.limit systems.now pools.now.value.items) (RightFor S.effect systems.now tick pools.now.value.items)
-        (length systems.now) board.now other }
-    ensures ready { IsAtWork (ReadyFor S.limit systems.now pools.now.value.items) (RightFor S.effect systems.now tick pools.now.value.items)
-        (length systems.now) board.now first.new }
-    ensures first { first.new.seat.me.0.is_first ≡ true }
-    ensures out { first.new.seat.me.0.out ≡ first.old.seat.me.0.out - 1 }
-    ensures seen { first.new.seat.me.0.seen_claimed ≡ first.old.seat.me.0.seen_claimed }
+    requires ready { IsAtWork (IsRightAt S.effect fact.now) (length systems.now) board.now first.old }
+    requires leads { (view_of first.old.seat).is_first ≡ true }
+    requires other { IsAtWork (IsRightAt S.effect fact.now) (length systems.now) board.now other }
+    requires later { IsLater other }
+    ensures ready { IsAtWork (IsRightAt S.effect fact.now) (length systems.now) board.now first.new }
+    ensures leads { (view_of first.new.seat).is_first ≡ true }
+    ensures out { (view_of first.new.seat).out ≡ (view_of first.old.seat).out - 1 }
+    ensures seen { IsWithin (view_of first.old.seat).seen_claimed (view_of first.new.seat).seen_claimed }
 {
     let _ = systems;
-    let _ = tick;
-    let _ = pools;
+    let _ = fact;
     let Worker {
         seat,
         mut buffers,
@@ -102,29 +98,27 @@ fn gather<S: System>(
     );
 }
 
-// The buffer of every system, from workers that saw all systems claimed.
-pub fn all_buffers<S: System>(
+// The buffer of every system, from workers of which the first saw all systems claimed.
+pub fn all_buffers<'b, S: System>(
     board: Board,
     systems: &[S],
-    tick: u64,
-    pools: &Snapshot<Vec<Storage<Row>>>,
+    fact: &TickFact<'b, S>,
     mut first: Worker,
     mut others: Vec<Worker>,
 ) -> Vec<Buffer>
-    requires ready { IsAtWork (ReadyFor S.limit systems.now pools.now.value.items) (RightFor S.effect systems.now tick pools.now.value.items)
-        (length systems.now) board first }
-    requires first { first.seat.me.0.is_first ≡ true }
-    requires all { IsWithin (2 ^ length systems.now - 1) first.seat.me.0.seen_claimed }
-    requires others { All (IsOther (ReadyFor S.limit systems.now pools.now.value.items) (RightFor S.effect systems.now tick pools.now.value.items)
-        (length systems.now) board) others.items }
-    requires out { first.seat.me.0.out ≡ length others.items }
-    requires systems { length board.preds.items ≡ length systems.now }
+    requires ready { IsAtWork (IsRightAt S.effect fact.now) (length systems.now) board first }
+    requires leads { (view_of first.seat).is_first ≡ true }
+    requires all { IsWithin (first_systems (length systems.now)) (view_of first.seat).seen_claimed }
+    requires others { All (IsAtWork (IsRightAt S.effect fact.now) (length systems.now) board) others.items }
+    requires later { All IsLater others.items }
+    requires out { (view_of first.seat).out ≡ length others.items }
+    requires systems { length (preds_in board) ≡ length systems.now }
     ensures count { length result.items ≡ length systems.now }
-    ensures right { (place : ℕ) (buffer : Emissions) → slice_get result.items place ≡ Some buffer →
-        RightFor S.effect systems.now tick pools.now.value.items place buffer }
+    ensures orders { (place : ℕ) (buffer : Emissions) → slice_get result.items place ≡ Some buffer →
+        IsRightAt S.effect fact.now place buffer }
 {
     while let Some(other) = others.pop() {
-        gather(&board, systems, tick, pools, &mut first, other);
+        gather(&board, systems, fact, &mut first, other);
     }
     let Worker {
         seat,

@@ -1,54 +1,44 @@
 //! Workers are made, with all memory that they want.
 
-ghost use Rattle.std.specs.Prelude.{◌≡◌, ℕ, ◌≤◌, ◌<◌, ◌+◌, [], length, map, slice_get, slice_index_or, Some, IfOk, IsTrue, false, true};
+ghost use Rattle.std.specs.Prelude.{◌≡◌, ◌≤◌, ◌<◌, ◌+◌, false, length, IfOk};
 ghost use Rattle.std.specs.List.{All};
-ghost use Rattle.world_model.specs.Frames.{system_pools};
-ghost use Rattle.world_model.specs.Groups.{are_declared};
-ghost use Rattle.system_api.specs.Running.{sizes_of};
-ghost use Rattle.registry.specs.Layout.{maps_of};
-ghost use Rattle.access_graph.specs.Conflicts.{need};
-ghost use Rattle.tick_runner.specs.Working.{AreWorkers, IsAtWork, IsFresh, IsOther, ReadyFor, RightFor};
+ghost use Rattle.ready_board.specs.Seats.{IsSeatOf, view_of};
+ghost use Rattle.tick_runner.specs.Working.{AreLed, IsFresh, IsIdle, IsLater};
 
-use crate::preparing::buffers_for;
-use crate::versions::writers_before;
 use crate::worker::Worker;
-use access_graph::conflicts;
 use entity_id::OutOfMemory;
-use ready_board::board::{Board, BoardSeat};
+use ready_board::{Board, BoardSeat};
 use std::alloc::Global;
-use std::snapshot::Snapshot;
-use storage::Storage;
-use system_api::{POOL_LIMIT, System};
-use world_model::Row;
+use system_api::{Buffer, POOL_LIMIT};
 
-// A worker that has run nothing.
-fn idle_worker<S: System>(
+// So many buffers that take no memory.
+fn empty_buffers(alloc: Global, count: usize) -> Result<Vec<Buffer>, OutOfMemory>
+    ensures { IfOk result (λ buffers. length buffers.items ≡ count) }
+{
+    let mut buffers = Vec::with_capacity(alloc, count)?;
+    for _place in 0..count {
+        buffers.push(Buffer::new(alloc))?;
+    }
+    Ok(buffers)
+}
+
+// A worker that has claimed nothing of so many systems.
+fn idle_worker(
     alloc: Global,
-    systems: &[S],
-    tick: u64,
-    pools: &Snapshot<Vec<Storage<Row>>>,
-    sizes: &[u32],
+    systems: usize,
     board: &Board,
     seat: BoardSeat,
 ) -> Result<Worker, OutOfMemory>
-    requires lists { (place : ℕ) (system : S) → slice_get systems.now place ≡ Some system →
-        IsTrue (are_declared (length sizes.now) (system_pools (S.lists system))) }
-    requires sizes { sizes.now ≡ sizes_of (maps_of pools.now.value.items) }
-    requires table { seat.table_id ≡ board.now.table.shared.table_id }
-    requires slots { seat.me.1 ≡ [] }
-    requires awake { seat.me.0.is_spent ≡ false }
-    requires mine { seat.me.0.mine ≡ 0 }
-    requires finished { seat.me.0.finished ≡ 0 }
+    requires seat { IsSeatOf board.now seat }
+    requires awake { (view_of seat).is_spent ≡ false }
+    requires mine { (view_of seat).mine ≡ 0 }
+    requires finished { (view_of seat).finished ≡ 0 }
     ensures seat { IfOk result (λ worker. worker.seat ≡ seat) }
-    ensures ready { IfOk result (λ worker. IsAtWork (ReadyFor S.limit systems.now pools.now.value.items) (RightFor S.effect systems.now tick pools.now.value.items)
-        (length systems.now) board.now worker) }
+    ensures idle { IfOk result (λ worker. IsIdle systems board.now worker) }
 {
-    let _ = tick;
-    let _ = pools;
     let _ = board;
-    let count = systems.len();
-    let buffers = buffers_for(alloc, systems, sizes)?;
-    let has_run = vec![in alloc; false; count]?;
+    let buffers = empty_buffers(alloc, systems)?;
+    let has_run = vec![in alloc; false; systems]?;
     let room = Vec::with_capacity(alloc, POOL_LIMIT)?;
     Ok(Worker {
         seat,
@@ -59,111 +49,43 @@ fn idle_worker<S: System>(
 }
 
 // The workers but for the one with the first seat.
-fn others_of<S: System>(
+fn other_workers(
     alloc: Global,
-    systems: &[S],
-    tick: u64,
-    pools: &Snapshot<Vec<Storage<Row>>>,
-    sizes: &[u32],
+    systems: usize,
     board: &Board,
     seat: &mut BoardSeat,
     count: usize,
 ) -> Result<Vec<Worker>, OutOfMemory>
-    requires lists { (place : ℕ) (system : S) → slice_get systems.now place ≡ Some system →
-        IsTrue (are_declared (length sizes.now) (system_pools (S.lists system))) }
-    requires sizes { sizes.now ≡ sizes_of (maps_of pools.now.value.items) }
     requires fresh { IsFresh board.now seat.old }
     ensures fresh { IfOk result (λ _. IsFresh board.now seat.new) }
-    ensures out { IfOk result (λ _. seat.new.me.0.out ≡ seat.old.me.0.out + count) }
+    ensures out { IfOk result (λ _. (view_of seat.new).out ≡ (view_of seat.old).out + count) }
     ensures count { IfOk result (λ others. length others.items ≡ count) }
-    ensures others { IfOk result (λ others. All (IsOther (ReadyFor S.limit systems.now pools.now.value.items) (RightFor S.effect systems.now tick pools.now.value.items)
-        (length systems.now) board.now) others.items) }
+    ensures idle { IfOk result (λ others. All (IsIdle systems board.now) others.items) }
+    ensures later { IfOk result (λ others. All IsLater others.items) }
 {
-    let mut others = Vec::new(alloc);
+    let mut others = Vec::with_capacity(alloc, count)?;
     for _k in 0..count {
         let other = board.split(seat);
-        let worker = idle_worker(alloc, systems, tick, pools, sizes, board, other)?;
-        others.push(worker)?;
+        others.push(idle_worker(alloc, systems, board, other)?)?;
     }
     Ok(others)
 }
 
-// The earlier systems that conflict with the one at a place, as the bits of a number.
-fn preds_at<S: System>(systems: &[S], place: usize) -> u64
-    requires within { place < length systems.now }
-    requires few { length systems.now ≤ 64 }
-{
-    let mut preds = 0u64;
-    for k in 0..place {
-        if conflicts(systems[k].access(), systems[place].access()) {
-            preds = preds | (1u64 << (k as u32));
-        }
-    }
-    preds
-}
-
-// For each system those that it waits for.
-fn preds_of<S: System>(alloc: Global, systems: &[S]) -> Result<Vec<u64>, OutOfMemory>
-    requires few { length systems.now ≤ 64 }
-    ensures { IfOk result (λ list. length list.items ≡ length systems.now) }
-{
-    let mut list = Vec::with_capacity(alloc, systems.len())?;
-    for place in 0..systems.len() {
-        list.push(preds_at(systems, place))?;
-    }
-    Ok(list)
-}
-
-/// How many systems write each of so many pools. Takes memory.
-pub fn lasts_of<S: System>(
+/// The workers of a board of so many systems, the one with the first seat last. Takes memory.
+pub fn make_workers(
     alloc: Global,
-    systems: &[S],
-    pools: usize,
-) -> Result<Vec<u32>, OutOfMemory>
-    requires few { length systems.now ≤ 64 }
-    requires pools { pools ≤ 64 }
-    ensures count { IfOk result (λ list. length list.items ≡ pools) }
-    ensures lasts { IfOk result (λ list. (pool : ℕ) → pool < pools →
-        slice_index_or list.items pool 0 ≡ need (map S.lists systems.now) (length systems.now) pool) }
-{
-    let mut list = Vec::with_capacity(alloc, pools)?;
-    for pool in 0..pools {
-        list.push(writers_before(systems, systems.len(), pool as u32))?;
-    }
-    Ok(list)
-}
-
-/// A board of these systems and its workers, the one with the first seat last. Takes memory.
-pub fn make_workers<S: System>(
-    alloc: Global,
-    systems: &[S],
-    tick: u64,
-    pools: &Snapshot<Vec<Storage<Row>>>,
-    sizes: &[u32],
-    workers: usize,
-) -> Result<(Board, Vec<Worker>), OutOfMemory>
-    requires few { length systems.now ≤ 64 }
-    requires lists { (place : ℕ) (system : S) → slice_get systems.now place ≡ Some system →
-        IsTrue (are_declared (length sizes.now) (system_pools (S.lists system))) }
-    requires sizes { sizes.now ≡ sizes_of (maps_of pools.now.value.items) }
+    systems: usize,
+    board: &Board,
+    mut seat: BoardSeat,
+    workers: u32,
+) -> Result<Vec<Worker>, OutOfMemory>
+    requires fresh { IsFresh board.now seat }
+    requires none { (view_of seat).out ≡ 0 }
     requires some { 0 < workers }
-    ensures board { IfOk result (λ made. length made.0.preds.items ≡ length systems.now) }
-    ensures workers { IfOk result (λ made. AreWorkers (ReadyFor S.limit systems.now pools.now.value.items) (RightFor S.effect systems.now tick pools.now.value.items)
-        (length systems.now) made.0 made.1.items) }
+    ensures { IfOk result (λ made. AreLed (IsIdle systems board.now) made.items) }
 {
-    let preds = preds_of(alloc, systems)?;
-    let (board, mut seat) = Board::new(alloc, &preds)?;
-    let mut all = others_of(
-        alloc,
-        systems,
-        tick,
-        pools,
-        sizes,
-        &board,
-        &mut seat,
-        workers - 1,
-    )?;
-    let first = idle_worker(alloc, systems, tick, pools, sizes, &board, seat)?;
+    let mut all = other_workers(alloc, systems, board, &mut seat, workers as usize - 1)?;
+    let first = idle_worker(alloc, systems, board, seat)?;
     all.push(first)?;
-    Ok((board, all))
+    Ok(all)
 }

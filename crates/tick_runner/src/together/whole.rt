@@ -6,21 +6,20 @@ ghost use Rattle.world_model.specs.Frames.{IsLawfulAccess};
 ghost use Rattle.world_model.specs.Ticks.{maps_after_systems, orders_of};
 ghost use Rattle.registry.specs.Layout.{maps_of};
 ghost use Rattle.registry.specs.Lending.{shapes_of};
-ghost use Rattle.access_graph.specs.Conflicts.{need};
-ghost use Rattle.pool_slots.specs.Tagged.{slots_of, firsts_of, AreSlots};
+ghost use Rattle.ready_board.specs.Seats.{preds_in};
+ghost use Rattle.tick_runner.specs.Plans.{AreOfTick, HasNeeds, IsPlanFor, IsShared};
 ghost use Rattle.tick_runner.specs.Running.{orders_in};
-ghost use Rattle.tick_runner.specs.Walking.{ArePrefixesFor};
-ghost use Rattle.tick_runner.specs.Sharing.{AreOfTick};
-ghost use Rattle.tick_runner.specs.Working.{AreWorkers, CanTick, HasWorked, HaveWorked, IsAtWork, ReadyFor, RightFor};
+ghost use Rattle.tick_runner.specs.Versions.{IsRightAt};
+ghost use Rattle.tick_runner.specs.Working.{AreLed, HasWorked, HaveWorked, IsAtWork, IsIdle};
 
 use super::gather::all_buffers;
 use super::work_all;
 use crate::gate::Gate;
+use crate::plan::Plan;
 use crate::versions::TickFact;
 use crate::worker::Worker;
 use pool_slots::{Slots, SlotsRoom};
-use ready_board::board::Board;
-use std::alloc::Global;
+use ready_board::Board;
 use std::snapshot::Snapshot;
 use std::sync::Wait;
 use std::thread::Threads;
@@ -38,9 +37,7 @@ fn fill_tick<'a, S: System>(
     requires few { length pools.old.items ≤ 64 }
     requires same { fact.now.pools.value.items ≡ pools.old.items }
     ensures count { length pools.new.items ≡ length pools.old.items }
-    ensures each { length result.slots.items ≡ length pools.old.items }
-    ensures slots { AreSlots fact.now result.slots.items }
-    ensures firsts { firsts_of result.slots.items ≡ pools.old.items }
+    ensures slots { AreOfTick fact.now result }
 {
     Slots::fill(room, fact, pools)
 }
@@ -50,163 +47,118 @@ fn close_tick<'a, 'b, R: Wait, S: System>(
     rt: &R,
     slots: Slots<TickFact<'a, S>>,
     fact: &TickFact<'b, S>,
-    systems: &[S],
-    tick: u64,
     lasts: &[u32],
     pools: &mut Vec<Storage<Row>>,
 )
-    requires slots { AreSlots fact.now slots.slots.items }
-    requires tick { AreOfTick systems.now tick (slots_of fact.now slots.slots.items) }
-    requires list { length pools.old.items ≡ length slots.slots.items }
-    requires each { length lasts.now ≡ length slots.slots.items }
+    requires slots { AreOfTick fact.now slots }
+    requires list { length pools.old.items ≡ length slots }
     requires few { length lasts.now ≤ 64 }
-    requires lasts { (pool : ℕ) → pool < length lasts.now →
-        slice_index_or lasts.now pool 0 ≡ need (map S.lists systems.now) (length systems.now) pool }
-    ensures rows { maps_of pools.new.items
-        ≡ maps_after_systems (map S.effect systems.now) tick (maps_of (firsts_of slots.entry.slots.items)) }
-    ensures shapes { shapes_of pools.new.items ≡ shapes_of (firsts_of slots.entry.slots.items) }
+    requires lasts { HasNeeds (map S.lists fact.now.systems.value.now)
+        (length fact.now.systems.value.now) (length slots) lasts.now }
+    ensures rows { maps_of pools.new.items ≡ maps_after_systems
+        (map S.effect fact.now.systems.value.now) fact.now.tick (maps_of fact.now.pools.value.items) }
+    ensures shapes { shapes_of pools.new.items ≡ shapes_of fact.now.pools.value.items }
 {
     let _ = fact;
-    let _ = systems;
-    let _ = tick;
     slots.close_at(rt, pools, lasts);
 }
 
-// The same over a `Vec`.
+// Lets all workers of a `Vec` work.
 fn work_listed<'a, 'b, R: Threads + Wait + Sync, S: System + Sync, T: Gate + Sync>(
     rt: &R,
-    alloc: Global,
-    board: &Board,
     slots: &Slots<TickFact<'a, S>>,
     fact: &TickFact<'b, S>,
     systems: &[S],
-    prefixes: &[Option<(u32, u32)>],
-    tick: u64,
+    plan: &Plan,
     gate: &T,
     workers: &mut Vec<Worker>,
 )
     requires some { 0 < length workers.old.items }
-    requires slots { AreSlots fact.now slots.now.slots.items }
-    requires can { CanTick S.lists systems.now prefixes.now tick (slots_of fact.now slots.now.slots.items) board.now }
-    requires ready { All (IsAtWork (ReadyFor S.limit systems.now (slots_of fact.now slots.now.slots.items).firsts) (RightFor S.effect systems.now tick (slots_of fact.now slots.now.slots.items).firsts)
-        (length systems.now) board.now) workers.old.items }
+    requires shared { IsShared S.lists S.limit systems.now fact.now slots.now plan.now }
+    requires ready { All (IsAtWork (IsRightAt S.effect fact.now) (length systems.now)
+        plan.now.board) workers.old.items }
     ensures count { length workers.new.items ≡ length workers.old.items }
-    ensures worked { (k : ℕ) (before after : _) → slice_get workers.old.items k ≡ Some before → slice_get workers.new.items k ≡ Some after →
-        HasWorked (ReadyFor S.limit systems.now (slots_of fact.now slots.now.slots.items).firsts) (RightFor S.effect systems.now tick (slots_of fact.now slots.now.slots.items).firsts)
-        (length systems.now) board.now before after }
+    ensures worked { (k : ℕ) (before after : _) → slice_get workers.old.items k ≡ Some before →
+        slice_get workers.new.items k ≡ Some after →
+        HasWorked (IsRightAt S.effect fact.now) (length systems.now) plan.now.board before after }
 {
-    work_all(
-        rt,
-        alloc,
-        board,
-        slots,
-        fact,
-        systems,
-        prefixes,
-        tick,
-        gate,
-        workers.as_mut_slice(),
-    );
+    work_all(rt, slots, fact, systems, plan, gate, workers.as_mut_slice());
 }
 
-// Lets all workers work.
-fn work_list<'a, 'b, R: Threads + Wait + Sync, S: System + Sync, T: Gate + Sync>(
+// Lets all workers work, from their first claims to their last ones.
+fn work_led<'a, 'b, R: Threads + Wait + Sync, S: System + Sync, T: Gate + Sync>(
     rt: &R,
-    alloc: Global,
-    board: &Board,
     slots: &Slots<TickFact<'a, S>>,
     fact: &TickFact<'b, S>,
     systems: &[S],
-    prefixes: &[Option<(u32, u32)>],
-    tick: u64,
+    plan: &Plan,
     gate: &T,
     workers: &mut Vec<Worker>,
 )
-    requires slots { AreSlots fact.now slots.now.slots.items }
-    requires can { CanTick S.lists systems.now prefixes.now tick (slots_of fact.now slots.now.slots.items) board.now }
-    requires workers { AreWorkers (ReadyFor S.limit systems.now (firsts_of slots.now.slots.items)) (RightFor S.effect systems.now tick (firsts_of slots.now.slots.items))
-        (length systems.now) board.now workers.old.items }
-    ensures { HaveWorked (ReadyFor S.limit systems.now (firsts_of slots.now.slots.items)) (RightFor S.effect systems.now tick (firsts_of slots.now.slots.items))
-        (length systems.now) board.now workers.new.items }
+    requires shared { IsShared S.lists S.limit systems.now fact.now slots.now plan.now }
+    requires idle { AreLed (IsIdle (length systems.now) plan.now.board) workers.old.items }
+    ensures { HaveWorked (IsRightAt S.effect fact.now) (length systems.now)
+        plan.now.board workers.new.items }
 {
-    work_listed(
-        rt, alloc, board, slots, fact, systems, prefixes, tick, gate, workers,
-    );
+    work_listed(rt, slots, fact, systems, plan, gate, workers);
 }
 
 // The buffers of all systems, in order.
-fn finish<S: System>(
+fn finish<'b, S: System>(
     board: Board,
     systems: &[S],
-    tick: u64,
-    pools: &Snapshot<Vec<Storage<Row>>>,
+    fact: &TickFact<'b, S>,
     mut workers: Vec<Worker>,
 ) -> Vec<Buffer>
-    requires board { length board.preds.items ≡ length systems.now }
-    requires worked { HaveWorked (ReadyFor S.limit systems.now pools.now.value.items) (RightFor S.effect systems.now tick pools.now.value.items)
-        (length systems.now) board workers.items }
-    ensures { map orders_in result.items ≡ orders_of (map S.effect systems.now) tick (maps_of pools.now.value.items) }
+    requires board { length (preds_in board) ≡ length systems.now }
+    requires systems { fact.now.systems.value.now ≡ systems.now }
+    requires worked { HaveWorked (IsRightAt S.effect fact.now) (length systems.now)
+        board workers.items }
+    ensures { map orders_in result.items ≡ orders_of (map S.effect systems.now) fact.now.tick
+        (maps_of fact.now.pools.value.items) }
 {
     let Some(first) = workers.pop() else {
         unreachable!()
     };
-    all_buffers(board, systems, tick, pools, first, workers)
+    all_buffers(board, systems, fact, first, workers)
 }
 
-/// Runs all systems of a tick on the pools, by these workers of a board: the rows and the orders are those
-/// of the systems run one after another. No memory.
+/// Runs all systems of a tick on the pools, by these workers: the rows and the orders are those of the
+/// systems run one after another. No memory.
 pub fn run_prepared<'a, R: Threads + Wait + Sync, S: System + Sync, T: Gate + Sync>(
     rt: &R,
-    alloc: Global,
     systems: &'a [S],
-    pools: &mut Vec<Storage<Row>>,
-    prefixes: &[Option<(u32, u32)>],
     tick: u64,
-    gate: &T,
-    board: Board,
+    plan: Plan,
     mut workers: Vec<Worker>,
     room: SlotsRoom<TickFact<'a, S>>,
-    lasts: &[u32],
+    gate: &T,
+    pools: &mut Vec<Storage<Row>>,
 ) -> Vec<Buffer>
-    requires few { length systems.now ≤ 64 }
-    requires few_pools { length pools.old.items ≤ 64 }
-    requires lists { (place : ℕ) (system : S) → slice_get systems.now place ≡ Some system →
-        IsLawfulAccess (length pools.old.items) (S.lists system) }
     requires tick { tick < 2 ^ 63 }
-    requires prefixes { ArePrefixesFor S.lists pools.old.items systems.now prefixes.now }
-    requires board { length board.preds.items ≡ length systems.now }
-    requires workers { AreWorkers (ReadyFor S.limit systems.now pools.old.items) (RightFor S.effect systems.now tick pools.old.items)
-        (length systems.now) board workers.items }
+    requires few { length pools.old.items ≤ 64 }
+    requires plan { IsPlanFor S.lists S.limit systems.now pools.old.items plan }
+    requires workers { AreLed (IsIdle (length systems.now) plan.board) workers.items }
     requires room { length pools.old.items ≤ room }
-    requires each { length lasts.now ≡ length pools.old.items }
-    requires lasts { (pool : ℕ) → pool < length lasts.now →
-        slice_index_or lasts.now pool 0 ≡ need (map S.lists systems.now) (length systems.now) pool }
     ensures rows { maps_of pools.new.items
         ≡ maps_after_systems (map S.effect systems.now) tick (maps_of pools.old.items) }
     ensures shapes { shapes_of pools.new.items ≡ shapes_of pools.old.items }
     ensures orders { map orders_in result.items
         ≡ orders_of (map S.effect systems.now) tick (maps_of pools.old.items) }
 {
-    let before = Snapshot::of(&*pools);
     let fact = TickFact {
         systems: Snapshot::of(&systems),
         tick,
         pools: Snapshot::of(&*pools),
     };
     let slots = fill_tick(room, &fact, pools);
-    work_list(
-        rt,
-        alloc,
-        &board,
-        &slots,
-        &fact,
-        systems,
-        prefixes,
-        tick,
-        gate,
-        &mut workers,
-    );
-    let buffers = finish(board, systems, tick, &before, workers);
-    close_tick(rt, slots, &fact, systems, tick, lasts, pools);
+    work_led(rt, &slots, &fact, systems, &plan, gate, &mut workers);
+    let Plan {
+        board,
+        parts: _,
+        lasts,
+    } = plan;
+    let buffers = finish(board, systems, &fact, workers);
+    close_tick(rt, slots, &fact, &lasts, pools);
     buffers
 }

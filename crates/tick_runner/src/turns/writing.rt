@@ -4,43 +4,39 @@ ghost use Rattle.std.specs.Prelude.{◌≡◌, ◌≤◌, ◌<◌, ◌+◌, ◌+
 ghost use Rattle.std.specs.List.{AllZip};
 ghost use Rattle.world_model.specs.Frames.{pool_limit};
 ghost use Rattle.world_model.specs.Groups.{are_declared};
-ghost use Rattle.pool_slots.specs.Tagged.{AreNumbered};
-ghost use Rattle.tick_runner.specs.Sharing.{found_at, IsOf, MayComeBack};
+ghost use Rattle.pool_slots.specs.Tags.{AreNumbered};
+ghost use Rattle.tick_runner.specs.Turns.{found_at, IsOf, MayComeBack};
 
-use crate::versions::writers_before;
 use arrayvec::ArrayVec;
 use pool_slots::{Place, PoolFact, Slots, WriteTurn};
 use std::sync::Wait;
-use system_api::{Lent, LentPool, POOL_LIMIT, System};
+use system_api::{Lent, LentPool, POOL_LIMIT};
 
-// Takes the pools of these numbers, at what the system at a place needs, and lends them for writing.
-pub fn write_list<'s, R: Wait, F: PoolFact, S: System>(
+// Takes the pools of these numbers, at the versions that are needed, and lends them for writing.
+pub fn write_all<'s, R: Wait, F: PoolFact>(
     rt: &R,
     slots: &'s Slots<F>,
-    systems: &[S],
-    place: usize,
+    needs: &[u32],
     list: &[u32],
     places: &mut ArrayVec<Option<Place<'s, F>>, POOL_LIMIT>,
     lent: &mut Lent<'_>,
 )
-    requires declared { IsTrue (are_declared (length slots.now.slots.items) list.now) }
+    requires declared { IsTrue (are_declared (length slots.now) list.now) }
     requires few { length list.now ≤ pool_limit }
-    requires numbered { AreNumbered slots.now.slots.items }
-    requires place { place ≤ length systems.now }
-    requires systems { length systems.now ≤ 64 }
+    requires numbered { AreNumbered slots.now }
+    requires needs { length needs.now ≡ length slots.now }
     requires none { places.old.items ≡ [] }
     requires empty { lent.old.writes ≡ [] }
-    ensures places { places.new.items ≡ found_at slots.now.slots.items (map S.lists systems.now) place list.now }
+    ensures places { places.new.items ≡ found_at slots.now needs.now list.now }
     ensures writes { AllZip (IsOf F.admits) places.new.items lent.new.writes }
     ensures reads { lent.new.reads ≡ lent.old.reads }
     ensures prefix { lent.new.prefix ≡ lent.old.prefix }
 {
-    for number in list {
-        let need = writers_before(systems, place, *number);
-        let WriteTurn { place: at, storage } = slots.write(rt, *number, need);
-        places.push(Some(at));
+    for pool in list {
+        let WriteTurn { place, storage } = slots.write(rt, *pool, needs[*pool as usize]);
+        places.push(Some(place));
         lent.add_write(LentPool {
-            number: *number,
+            number: *pool,
             storage,
         });
     }

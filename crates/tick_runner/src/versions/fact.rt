@@ -1,6 +1,6 @@
 //! What is so of each pool in its slot, at each version.
 
-ghost use Rattle.tick_runner.specs.Sharing.{tick_admits};
+ghost use Rattle.tick_runner.specs.Versions.{tick_admits};
 
 use pool_slots::PoolFact;
 use std::snapshot::Snapshot;

@@ -1,23 +1,19 @@
 //! One system on pools in slots.
 
-ghost use Rattle.std.specs.Prelude.{◌≡◌, ℕ, ◌<◌, ◌≤◌, ◌^◌, [], Some, None, length, map, slice_get, slice_index_or, vec_capacity};
+ghost use Rattle.std.specs.Prelude.{◌≡◌, ℕ, ◌<◌, ◌≤◌, ◌^◌, [], Some, length, slice_get, vec_capacity};
 ghost use Rattle.world_model.specs.Frames.{pool_limit, IsLawfulAccess};
-ghost use Rattle.world_model.specs.Ticks.{orders_of};
-ghost use Rattle.system_api.specs.Running.{sizes_of};
-ghost use Rattle.registry.specs.Layout.{maps_of};
-ghost use Rattle.tick_runner.specs.Running.{orders_in, IsReady};
-ghost use Rattle.tick_runner.specs.Walking.{ArePrefixesFor};
-ghost use Rattle.pool_slots.specs.Tagged.{slots_of, AreSlots};
-ghost use Rattle.tick_runner.specs.Sharing.{AreOfTick};
+ghost use Rattle.access_graph.specs.Systems.{system_limit};
+ghost use Rattle.tick_runner.specs.Plans.{AreOfTick, IsPartFor};
+ghost use Rattle.tick_runner.specs.Running.{IsReady};
+ghost use Rattle.tick_runner.specs.Versions.{IsRightAt};
 
 use crate::gate::Gate;
 use crate::lending::lend_prefix;
-use crate::running::prefix_at;
-use crate::turns::{leave_all, lend_turns, put_all, read_all, write_list};
+use crate::plan::Part;
+use crate::turns::{leave_all, lend_turns, put_all, read_all, read_once, write_all};
 use crate::versions::TickFact;
 use arrayvec::ArrayVec;
 use pool_slots::Slots;
-use std::alloc::Global;
 use std::mem;
 use std::sync::Wait;
 use system_api::{Buffer, Lent, LentPool, System};
@@ -26,54 +22,48 @@ use system_api::{Buffer, Lent, LentPool, System};
 // those that it writes back at their next versions; its orders are put in order.
 pub fn run_claimed<'a, 'b, R: Wait, S: System, T: Gate>(
     rt: &R,
-    alloc: Global,
     slots: &Slots<TickFact<'a, S>>,
     fact: &TickFact<'b, S>,
-    systems: &[S],
-    place: usize,
-    prefixes: &[Option<(u32, u32)>],
-    tick: u64,
+    place: u32,
+    system: &S,
+    part: &Part,
     gate: &T,
     room: &mut Vec<LentPool>,
     out: &mut Buffer,
 )
-    requires tags { AreSlots fact.now slots.now.slots.items }
-    requires slots { AreOfTick systems.now tick (slots_of fact.now slots.now.slots.items) }
-    requires place { place < length systems.now }
-    requires few { length systems.now ≤ 64 }
-    requires lists { (k : ℕ) (system : S) → slice_get systems.now k ≡ Some system →
-        IsLawfulAccess (length (slots_of fact.now slots.now.slots.items).firsts) (S.lists system) }
-    requires tick { tick < 2 ^ 63 }
+    requires slots { AreOfTick fact.now slots.now }
+    requires few { length fact.now.systems.value.now ≤ system_limit }
+    requires at { slice_get fact.now.systems.value.now place ≡ Some system.now }
+    requires lawful { IsLawfulAccess (length fact.now.pools.value.items) (S.lists system.now) }
+    requires part { IsPartFor S.lists S.limit fact.now.systems.value.now fact.now.pools.value.items
+        place system.now part.now }
+    requires tick { fact.now.tick < 2 ^ 63 }
     requires list { room.old.items ≡ [] }
     requires room { pool_limit ≤ vec_capacity room.old }
-    requires prefixes { ArePrefixesFor S.lists (slots_of fact.now slots.now.slots.items).firsts systems.now prefixes.now }
-    requires ready { (system : S) → slice_get systems.now place ≡ Some system →
-        IsReady (S.limit system (sizes_of (maps_of (slots_of fact.now slots.now.slots.items).firsts))) out.old }
+    requires ready { IsReady part.now.buffer.slot out.old }
     ensures list { room.new.items ≡ [] }
     ensures room { pool_limit ≤ vec_capacity room.new }
-    ensures orders { slice_get (orders_of (map S.effect systems.now) tick (maps_of (slots_of fact.now slots.now.slots.items).firsts)) place
-        ≡ Some (orders_in out.new) }
+    ensures orders { IsRightAt S.effect fact.now place out.new }
 {
-    let _ = fact;
-    let system = &systems[place];
     let access = system.access();
-    let turns = read_all(rt, slots, systems, place, access);
+    let pools = read_once(access);
+    let turns = read_all(rt, slots, &part.needs, pools.as_slice());
     let shown = turns.as_slice();
-    let mut lent = Lent::new(mem::replace(room, Vec::new(alloc)));
-    lend_prefix(&mut lent, prefix_at(prefixes, place));
-    lend_turns(shown, &mut lent);
+    let empty = Vec::new(*room.allocator());
+    let mut lent = Lent::new(mem::replace(room, empty));
+    lend_prefix(&mut lent, part.prefix);
+    lend_turns(pools.as_slice(), shown, &mut lent, access);
     let mut places = ArrayVec::new();
-    write_list(
+    write_all(
         rt,
         slots,
-        systems,
-        place,
+        &part.needs,
         access.write.as_slice(),
         &mut places,
         &mut lent,
     );
-    gate.enter(place as u32);
-    system.run(&mut lent, tick, out);
+    gate.enter(place);
+    system.run(&mut lent, fact.tick, out);
     let mut writes = lent.into_writes();
     put_all(places, &mut writes);
     leave_all(turns);

@@ -1,9 +1,8 @@
-use Rattle.std.proofs.Common.{◌≡◌, List, sym, subst}
+use Rattle.std.proofs.Common.{List, sym, ◌∙◌, subst}
 use Rattle.storage.specs.Stored.{Stored}
 use Rattle.world_model.specs.declared.component.Row.{Row}
 use Rattle.registry.specs.Layout.{maps_of}
-use Rattle.pool_slots.specs.Slotted.{rows_of}
-use Rattle.pool_slots.proofs.TagLemmas.{filled_slots, filled_firsts}
+use Rattle.pool_slots.specs.Turns.{rows_of}
 use Rattle.tick_runner.specs.Versions.{IsAt}
 use Rattle.tick_runner.proofs.SideLemmas.{admitted_first}
 use Rattle.tick_runner.proofs.together.whole.fill_tick.Goals as goal
@@ -15,7 +14,4 @@ fill-requires-clause-admitted g c = λ pool stored at.
     (admitted_first g.S.System.lists g.S.System.effect g.met.S.System.frame systems c.args.fact.now.tick c.args.pools.now.items pool stored at)
 
 pub returns-clause-slots : goal.returns-clause-slots
-returns-clause-slots g c = filled_slots c.args.fact.now c.args.pools.now.items c.fill.result.slots.items c.fill.ensures.filled
-
-pub returns-clause-firsts : goal.returns-clause-firsts
-returns-clause-firsts g c = filled_firsts c.args.fact.now c.args.pools.now.items c.fill.result.slots.items c.fill.ensures.filled
+returns-clause-slots g c = record { slots = c.fill.ensures.filled.slots; pools = c.fill.ensures.filled.firsts ∙ sym c.requires.same }

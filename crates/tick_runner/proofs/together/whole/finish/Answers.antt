@@ -1,17 +1,28 @@
-use Rattle.std.proofs.Common.{◌≡◌, sym, subst, ◌∙◌, length}
+use Rattle.std.proofs.Common.{◌≡◌, sym, subst, ◌∙◌, length, map, Some, slice_get}
 use Rattle.std.specs.List.{All}
+use Rattle.world_model.specs.Ticks.{orders_of}
 use Rattle.registry.specs.Layout.{maps_of}
-use Rattle.tick_runner.specs.Working.{IsOther, ReadyFor, RightFor}
+use Rattle.tick_runner.specs.Running.{orders_in}
+use Rattle.tick_runner.specs.Versions.{IsRightAt}
+use Rattle.tick_runner.specs.Working.{IsAtWork, IsLater}
 use Rattle.tick_runner.proofs.SideLemmas.{all_orders, snoc_same}
 use Rattle.tick_runner.proofs.together.whole.finish.Goals as goal
 
 pub all_buffers-requires-clause-others : goal.all_buffers-requires-clause-others
 all_buffers-requires-clause-others g c =
-    let are = c.requires.worked.are_workers in
-    let systems = c.args.systems.now in
-    let pools = c.args.pools.now.value.items in
-    subst (λ ws. All (IsOther (ReadyFor g.S.System.limit systems pools) (RightFor g.S.System.effect systems c.args.tick pools) (length systems) c.args.board) ws)
-    (snoc_same are.others c.pop.new.self.items are.first c.in-Some.first (sym are.all ∙ c.in-Some.ensures.items)).0 are.others_are
+    let led = c.requires.worked.led in
+    subst (λ ws. All (IsAtWork (IsRightAt g.S.System.effect c.args.fact.now) (length c.args.systems.now) c.args.board) ws)
+    (snoc_same led.others c.pop.new.self.items led.first c.in-Some.first (sym led.all ∙ c.in-Some.ensures.items)).0 led.others_are
+
+pub all_buffers-requires-clause-later : goal.all_buffers-requires-clause-later
+all_buffers-requires-clause-later g c =
+    let led = c.requires.worked.led in
+    subst (λ ws. All IsLater ws) (snoc_same led.others c.pop.new.self.items led.first c.in-Some.first (sym led.all ∙ c.in-Some.ensures.items)).0 led.others_later
 
 pub returns : goal.returns
-returns g c = all_orders g.S.System.lists g.S.System.effect c.args.systems.now c.args.tick (maps_of c.args.pools.now.value.items) c.all_buffers.result.items c.all_buffers.ensures.count c.all_buffers.ensures.right
+returns g c =
+    let tick = c.args.fact.now.tick in
+    let maps = maps_of c.args.fact.now.pools.value.items in
+    let effect = g.S.System.effect in
+    all_orders g.S.System.lists effect c.args.systems.now tick maps c.all_buffers.result.items c.all_buffers.ensures.count
+    (λ place b at. subst (λ ss. slice_get (orders_of (map effect ss) tick maps) place ≡ Some (orders_in b)) c.requires.systems (c.all_buffers.ensures.orders place b at))

@@ -1,37 +1,31 @@
-use Rattle.std.proofs.Common.{◌≡◌, ◌≤◌, ◌<◌, ◌+◌, ◌++◌, ◌∷◌, [], ℕ, take, length, Option, Some, None, slice_get, refl, sym, ap, ◌∙◌, subst, arith, rules, add-one}
-use Rattle.std.specs.Prelude.{IsTrue, is_some}
-use Rattle.std.specs.List.{AllZip}
-use Rattle.std.proofs.lemmas.Bool.{false≢true}
-use Rattle.std.proofs.lemmas.List.{length-take}
-use Rattle.std.proofs.lemmas.Option.{slice_get_read}
-use Rattle.entity_id.proofs.ListLemmas.{all_at}
-use Rattle.system_api.specs.declared.lent.LentPool.{LentPool}
-use Rattle.tick_runner.proofs.ListLemmas.{all_zip_length, all_zip_more}
-use Rattle.tick_runner.specs.Sharing.{IsOf}
-use Rattle.tick_runner.proofs.VersionLemmas.{take_next}
+use Rattle.std.proofs.Common.{◌≡◌, ℕ, ◌++◌, List, [], map, true, sym, ◌∙◌, subst}
+use Rattle.std.specs.List.{AllByRecursion, AllZip}
+use Rattle.world_model.specs.Groups.{has_pool}
+use Rattle.tick_runner.specs.Turns.{IsOf}
+use Rattle.tick_runner.proofs.NamingLemmas.{all-named, read_named, look_named, without_named}
 use Rattle.tick_runner.proofs.turns.reading.lend_turns.Goals as goal
 
-pub add_read-requires : goal.add_read-requires
-add_read-requires g c =
-    let each = all_zip_length (IsOf g.F.PoolFact.admits) (take c.loop-turn.turn-index c.args.turns.now) c.loop-turn.lent.reads c.loop-turn.invariant.reads in
-    omega (arith, each, length-take c.loop-turn.turn-index c.args.turns.now, c.loop-turn-test.true, c.requires.few)
+pub lend_list-requires-clause-named : goal.lend_list-requires-clause-named
+lend_list-requires-clause-named g c =
+    subst (λ (list : List ℕ). AllByRecursion (λ (pool : ℕ). has_pool c.args.pools.now pool ≡ true) list) (sym c.as_slice.ensures)
+    (all-named c.args.pools.now c.args.access.now.read (λ n named. c.requires.named n ∙ read_named c.args.access.now n named))
 
-pub loop-turn-preserved : goal.loop-turn-preserved
-loop-turn-preserved g c =
-    let k = c.loop-turn.turn-index in
-    let turns = c.args.turns.now in
-    let admits = g.F.PoolFact.admits in
-    let turn = c.in-Some.turn in
-    let at : slice_get turns k ≡ Some (Some turn) = slice_get_read turns (length turns) k (Some turn) refl c.loop-turn-test.true (search rules) in
-    let pool : LentPool = record { number = c.pool.result; storage = c.storage.result.now } in
-    record {
-      reads = subst (λ ts. AllZip (IsOf admits) ts c.add_read.new.self.reads) (sym (ap (λ n. take n turns) (add-one k) ∙ take_next turns k (Some turn) at))
-          (subst (λ (ws : _). AllZip (IsOf admits) (take k turns ++ Some turn ∷ []) ws) (sym c.add_read.ensures.reads)
-          (all_zip_more (IsOf admits) (take k turns) c.loop-turn.lent.reads (Some turn) pool c.loop-turn.invariant.reads (record {
-            number = c.pool.ensures;
-            admitted = c.storage.ensures.admitted;
-            shape = c.storage.ensures.shape;
-          })));
-      writes = c.add_read.ensures.writes ∙ c.loop-turn.invariant.writes;
-      prefix = c.add_read.ensures.prefix ∙ c.loop-turn.invariant.prefix;
-    }
+pub lend_list-requires-2-clause-named : goal.lend_list-requires-2-clause-named
+lend_list-requires-2-clause-named g c =
+    subst (λ (list : List ℕ). AllByRecursion (λ (pool : ℕ). has_pool c.args.pools.now pool ≡ true) list) (sym c.as_slice-2.ensures)
+    (all-named c.args.pools.now c.args.access.now.look (λ n named. c.requires.named n ∙ look_named c.args.access.now n named))
+
+pub lend_list-requires-3-clause-named : goal.lend_list-requires-3-clause-named
+lend_list-requires-3-clause-named g c =
+    subst (λ (list : List ℕ). AllByRecursion (λ (pool : ℕ). has_pool c.args.pools.now pool ≡ true) list) (sym c.as_slice-3.ensures)
+    (all-named c.args.pools.now c.args.access.now.without (λ n named. c.requires.named n ∙ without_named c.args.access.now n named))
+
+pub returns-clause-reads : goal.returns-clause-reads
+returns-clause-reads g c = λ found are.
+    let R = IsOf g.F.PoolFact.admits in
+    let none : AllZip R (map found []) c.args.lent.now.reads = subst (λ (ps : List _). AllZip R [] ps) (sym c.requires.empty) tt in
+    let read = c.lend_list.ensures.reads found [] are none in
+    let looked = c.lend_list-2.ensures.reads found c.as_slice.result.now are read in
+    let all = c.lend_list-3.ensures.reads found (c.as_slice.result.now ++ c.as_slice-2.result.now) are looked in
+    subst (λ (list : List ℕ). AllZip R (map found list) c.lend_list-3.new.lent.reads)
+    (λ i. (c.as_slice.ensures i ++ c.as_slice-2.ensures i) ++ c.as_slice-3.ensures i) all

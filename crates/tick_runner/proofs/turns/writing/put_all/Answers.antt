@@ -1,9 +1,7 @@
-use Rattle.std.proofs.Common.{◌≡◌, ◌≤◌, ◌++◌, ◌∷◌, [], Option, Some, None, sym, ap, ◌∙◌, subst, arith}
-use Rattle.std.specs.List.{AllZip}
-use Rattle.system_api.specs.declared.lent.LentPool.{LentPool}
-use Rattle.pool_slots.specs.Slotted.{Turn}
-use Rattle.tick_runner.specs.Sharing.{MayComeBack}
-use Rattle.tick_runner.proofs.SharingLemmas.{last_pair}
+use Rattle.std.proofs.Common.{Option, subst, arith}
+use Rattle.pool_slots.specs.Turns.{Turn}
+use Rattle.tick_runner.specs.Turns.{MayComeBack}
+use Rattle.tick_runner.proofs.TurnLemmas.{last_pair}
 use Rattle.tick_runner.proofs.turns.writing.put_all.Goals as goal
 
 pub unreachable-requires-in_default-last : goal.unreachable-requires-in_default-last

@@ -1,6 +1,6 @@
 use Rattle.std.proofs.Common.{◌≤◌, vec_capacity}
 use Rattle.std.specs.List.{AllZip}
-use Rattle.tick_runner.specs.Sharing.{MayComeBack}
+use Rattle.tick_runner.specs.Turns.{MayComeBack}
 use Rattle.tick_runner.proofs.turns.writing.put_all.Given as goal
 
 abbrev pub invariant-loop-pool : goal.invariant-loop-pool
