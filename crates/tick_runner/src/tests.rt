@@ -228,6 +228,7 @@ fn writers_of_two_pools_run_at_the_same_time(rt: HostRuntime) -> Result<(), Fail
     ];
     let gate = Holding::new([Some(1), Some(0), None]);
     tick_shared(&rt, alloc, empty_registry(alloc)?, &systems, 7, 2, &gate)?;
+    assert_eq!(rt; gate.entered.load(Ordering::SeqCst), 0b11);
     assert_eq!(rt; gate.late.load(Ordering::SeqCst), 0);
     Ok(())
 }
@@ -241,6 +242,7 @@ fn readers_of_one_pool_run_at_the_same_time(rt: HostRuntime) -> Result<(), Fail>
     ];
     let gate = Holding::new([Some(1), Some(0), None]);
     tick_shared(&rt, alloc, empty_registry(alloc)?, &systems, 7, 2, &gate)?;
+    assert_eq!(rt; gate.entered.load(Ordering::SeqCst), 0b11);
     assert_eq!(rt; gate.late.load(Ordering::SeqCst), 0);
     Ok(())
 }
@@ -255,6 +257,7 @@ fn a_system_starts_while_another_one_of_its_wave_runs(rt: HostRuntime) -> Result
     ];
     let gate = Holding::new([None, Some(2), None]);
     tick_shared(&rt, alloc, empty_registry(alloc)?, &systems, 7, 2, &gate)?;
+    assert_eq!(rt; gate.entered.load(Ordering::SeqCst), 0b111);
     assert_eq!(rt; gate.late.load(Ordering::SeqCst), 0);
     Ok(())
 }
